@@ -1,0 +1,4 @@
+pub mod Tests
+pub mod Moves
+pub mod Places
+pub mod InTime

@@ -1,0 +1,5 @@
+pub mod Numbers
+pub mod Stages
+pub mod Meaning
+pub mod InTime
+pub mod Fresh
