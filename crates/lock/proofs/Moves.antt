@@ -1,14 +1,13 @@
 -- What one altered stage leaves of a list of stages.
 use mathlib.Core.Path.{_≡_, refl, ap}
-use mathlib.Core.Logic.{_⊎_, inl, inr, _≢_}
+use mathlib.Core.Logic.{_≢_}
 use mathlib.Core.List.{List, [], _∷_}
-use Prim.Native.Nat.{ℕ, zero, suc, _<_, _≤_}
+use Prim.Native.Nat.{ℕ, zero, suc, _<_}
 use native.Mathlib.Omega.{arith}
 use lib.ListN.{length, set}
 use Rattle.std.specs.declared.option.Option.the-variants.{Some, None}
 use Rattle.std.proofs.shelf.Lists.{length-set}
 use Rattle.lock.specs.declared.stage.Stage.{Stage}
-use Rattle.lock.specs.declared.stage.Stage.the-variants.{Rest, Trying, Inside, Leaving}
 use Rattle.lock.specs.Stages.{Station, nth, asked, moved}
 
 -- by indices from 0

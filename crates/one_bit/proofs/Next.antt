@@ -7,7 +7,7 @@ use native.Mathlib.Omega.{arith}
 use Rattle.lock.specs.declared.stage.Stage.the-variants.{Rest, Trying, Inside, Leaving}
 use Rattle.one_bit.specs.declared.place.Place.{Place}
 use Rattle.one_bit.specs.declared.place.Place.the-variants.{Idle, Raise, CheckLow, Yield, Await, CheckHigh, Within, Lower}
-use Rattle.one_bit.specs.Places.{stage-at, raised, reach, Ranged, to-come}
+use Rattle.one_bit.specs.Places.{stage-at, raised, Ranged, to-come}
 use Rattle.one_bit.specs.Turns.{next, lower-after, higher-after}
 
 -- on the way in with no raised flag seen, or inside

@@ -3,11 +3,10 @@ use mathlib.Core.Path.{_≡_, sym, ap, _∙_}
 use mathlib.Core.Bool.{false}
 use Prim.Native.Nat.{ℕ, _-_, _≤_}
 use native.Mathlib.Omega.{arith}
-use lib.ListN.{replicate, getD-replicate}
+use lib.ListN.{getD-replicate}
 use Rattle.std.specs.declared.option.Option.the-variants.{Some}
 use Rattle.std.specs.declared.result.Result.the-variants.{Ok}
 use Rattle.one_bit.specs.declared.place.Place.the-variants.{Idle}
-use Rattle.one_bit.specs.declared.OneBit.{OneBit}
 use Rattle.one_bit.specs.Places.{stage-at, raised}
 use Rattle.one_bit.specs.Registers.{place-of, flag-of}
 use Rattle.one_bit.specs.Turns.{fresh, made-for}

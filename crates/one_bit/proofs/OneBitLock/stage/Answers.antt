@@ -5,7 +5,6 @@ use mathlib.Core.Path.{sym, ap, _∙_}
 use native.Mathlib.Omega.{arith}
 use Rattle.std.specs.declared.option.Option.the-variants.{Some}
 use Rattle.one_bit.specs.declared.place.Place.the-variants.{Idle}
-use Rattle.one_bit.specs.Places.{stage-at}
 use Rattle.one_bit.specs.Sound.{Numbered}
 use Rattle.one_bit.proofs.Stations.{asked-read, asked-out}
 use Rattle.one_bit.proofs.OneBitLock.stage.Needs as need
