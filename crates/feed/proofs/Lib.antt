@@ -1,0 +1,13 @@
+pub mod Differences
+pub mod Entries
+pub mod Piles
+pub mod Changes
+pub mod Places
+pub mod Signs
+pub mod Undos
+pub mod Trims
+pub mod Courses
+pub mod Fits
+pub mod Steps
+pub mod Refusals
+pub mod Reversals
