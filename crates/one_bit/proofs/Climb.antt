@@ -20,7 +20,8 @@ use Rattle.one_bit.proofs.Put.{put, place-here, place-other}
 use Rattle.one_bit.proofs.Next.{Climbs, climbs-trying, climbs-inside, next-climbs, next-nearer}
 use Rattle.one_bit.proofs.Turn.{after, turned-put, turned-sound, alone-after}
 use Rattle.one_bit.proofs.Ends.{begun-put, begun-sound, ended-put, ended-sound}
-use Rattle.one_bit.proofs.Law.{lowered-put, turned-kept, ended-kept}
+use Rattle.one_bit.proofs.Kept.{turned-kept, ended-kept}
+use Rattle.one_bit.proofs.Law.{lowered-put}
 
 -- the turns to come of a station
 abbrev left : OneBit → ℕ → ℕ

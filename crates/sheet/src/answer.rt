@@ -98,8 +98,6 @@ pub fn answer(heap: Global, text: &[u8]) -> Result<Vec<u8>, AllocError>
 }
 
 // A sheet has one output.
-pub fn sheet_has_one_output() -> u8
+pub fn sheet_has_one_output()
     ensures { λ _. ⌜ One-output ⌝ }
-{
-    0
-}
+{}
