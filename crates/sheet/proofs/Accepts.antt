@@ -21,7 +21,7 @@ use Rattle.sheet.proofs.Justified.{justified-whole, shown-length}
 use Rattle.sheet.proofs.Scans.{followed}
 use Rattle.sheet.proofs.Steps.{Valid, valid-more, valid-end, grown}
 
--- `whole`: the bytes go to the end of the field
+-- the content after all these columns; `whole`: they go to the end of the field
 abbrev pub content-at-end : Form → Bool → Content → List ℕ → Option Content
 content-at-end f whole s [] = Some s
 content-at-end f whole s (b ∷ bs) = followed (content-after f (cond whole (eqb (length bs) 0) false) s b) (λ t. content-at-end f whole t bs) None
@@ -47,6 +47,7 @@ push-column f whole s (x ∷ ds) d =
     rw (not-last whole (ds ++ (d ∷ [])) (simp length-append (omega arith)))
     (followed-twice (content-after f false s x) (λ t. content-at-end f whole t (ds ++ (d ∷ []))) (λ t. content-at-end f false t ds) (λ t. content-after f whole t d) (λ t. push-column f whole t ds d))
 
+-- the figures of a number are accepted where the field is blank and after a minus sign
 abbrev Counts : ℕ → List ℕ → Type 0
 Counts n ds = 1 ≤ n → (f : Form) → (f ≡ Zero → ⊥) → (whole : Bool) → (content-at-end f whole Blank ds ≡ Some (Number n)) × (content-at-end f whole Minus ds ≡ Some (Negative n))
 
@@ -91,7 +92,7 @@ accepted f w (Negative n) o h v =
     let p : 10 ^ w ≤ 10 ^ 8 = pow-le-pow-right (lit< tt) h in
     spaced f w (45 ∷ decimal n) (Negative n) (omega arith) (shown-length f w (Negative n) o h v) (subst (λ g. content-at-end g true Blank (45 ∷ decimal n) ≡ Some (Negative n)) (sym (v .0)) (negative-accepted n (v .1) (omega arith)))
 
-pub followed-is : (o : Option Content) (F : Content → Option Content) (v : Content) → followed o F None ≡ Some v → (t : Content) × ((o ≡ Some t) × (F t ≡ Some v))
+followed-is : (o : Option Content) (F : Content → Option Content) (v : Content) → followed o F None ≡ Some v → (t : Content) × ((o ≡ Some t) × (F t ≡ Some v))
 followed-is (Some t) F v e = (t, (refl, e))
 followed-is None F v e = let z : _≡_ {A = ℕ} 0 1 = cc in absurd (omega arith)
 

@@ -22,7 +22,7 @@ use Rattle.sheet.specs.Stops.{Stops}
 use Rattle.sheet.proofs.Accepts.{content-at-end, accepted, sound}
 
 -- the words of j bytes that are accepted after s
-abbrev pub Accepted : Form → Content → ℕ → List ℕ → Type 0
+abbrev Accepted : Form → Content → ℕ → List ℕ → Type 0
 Accepted f s j l = (length l ≡ j) × ((v : Content) × (content-at-end f true s l ≡ Some v))
 
 accepted-after : (f : Form) (s t : Content) (b : ℕ) (l : List ℕ) (j : ℕ) → length l ≡ j → content-after f (eqb j 0) s b ≡ Some t → content-at-end f true s (b ∷ l) ≡ content-at-end f true t l
@@ -43,7 +43,7 @@ can-go-on f Minus (suc j) = let a = can-go-on f (Negative 1) j in (49 ∷ a .0, 
 can-go-on f (Number n) (suc j) = let a = can-go-on f (Number (n * 10 + 0)) j in (48 ∷ a .0, (ap suc (a .1 .0), a .1 .1))
 can-go-on f (Negative n) (suc j) = let a = can-go-on f (Negative (n * 10 + 0)) j in (48 ∷ a .0, (ap suc (a .1 .0), a .1 .1))
 
-abbrev pub Scanned : Form → ℕ → Content → List ℕ → Result Content ℕ → Type 0
+abbrev Scanned : Form → ℕ → Content → List ℕ → Result Content ℕ → Type 0
 Scanned f at s bs (Ok v) = content-at-end f true s bs ≡ Some v
 Scanned f at s bs (Err c) = (d : ℕ) × ((c ≡ at + d) × ((d < length bs) × Stops (Accepted f s (length bs)) bs d))
 
@@ -82,7 +82,7 @@ module _ (f : Form) (at : ℕ) (s : Content) (b : ℕ) (bs : List ℕ) where
   scanned-by (Some t) e ih = scanned-some t e (scan f (at + 1) t bs) (ih t)
   scanned-by None e ih = (0, (sym (add-zero at), (omega arith, record { goes = let a = can-go-on f s (suc (length bs)) in (a .0, (a .1, refl)); ends = refused e })))
 
-pub scanned : (f : Form) (at : ℕ) (s : Content) (bs : List ℕ) → Scanned f at s bs (scan f at s bs)
+scanned : (f : Form) (at : ℕ) (s : Content) (bs : List ℕ) → Scanned f at s bs (scan f at s bs)
 scanned f at s [] = refl
 scanned f at s (b ∷ bs) = scanned-by f at s b bs (content-after f (eqb (length bs) 0) s b) refl (λ t. scanned f (at + 1) t bs)
 

@@ -39,6 +39,9 @@ End l = l ≡ 10 ∷ []
 abbrev Parts : Form → List ℕ → Type 0
 Parts f = Joined (Field-text Natural 3) (Joined (Field-text f 8) End)
 
+pub station-fits : (s : ℕ) → s < 1000 → Fits Natural 3 (Number s)
+station-fits s h = (h, λ z. let u : _≡_ {A = ℕ} 0 1 = cc in absurd (omega arith))
+
 station-natural : (v : Content) → Fits Natural 3 v → (shown v ≡ decimal (size-of v)) × (size-of v < 1000)
 station-natural Blank g = absurd g
 station-natural Minus g = absurd g
@@ -52,7 +55,7 @@ to-fields f l (u, (v, (s, ((x, (y, (p, (e, h)))), g)))) =
 
 from-fields : (f : Form) (l : List ℕ) → Fields-text f l → Parts f l
 from-fields f l (s, (v, (h, (g, e)))) =
-    (justified 3 (decimal s), (justified 8 (shown v) ++ (10 ∷ []), ((Number s, ((h, λ z. let u : _≡_ {A = ℕ} 0 1 = cc in absurd (omega arith)), refl)), ((justified 8 (shown v), (10 ∷ [], ((v, (g, refl)), (refl, refl)))), e))))
+    (justified 3 (decimal s), (justified 8 (shown v) ++ (10 ∷ []), ((Number s, (station-fits s h, refl)), ((justified 8 (shown v), (10 ∷ [], ((v, (g, refl)), (refl, refl)))), e))))
 
 sized-field : (f : Form) (w : ℕ) (l : List ℕ) → Field-text f w l → length l ≡ w
 sized-field f w l t = rw (t .1 .1) (justified-length w (shown (t .0)))

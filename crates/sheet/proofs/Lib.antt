@@ -11,6 +11,7 @@ pub mod Lines
 pub mod CallLines
 pub mod SetUpLines
 pub mod Written
+pub mod LineLengths
 pub mod Readings
 pub mod OneReading
 pub mod CallRuns

@@ -7,7 +7,7 @@ use Prim.Native.Nat.{ℕ, suc, _-_, _<_, _≤_, min}
 use native.Mathlib.Omega.{arith}
 use lib.Dec.{lit<, lit≤}
 use lib.ListN.{length, take, drop, getD, length-take}
-use lib.Seq.{take-take, take-at, drop-at, drop-cons}
+use lib.Seq.{take-take, drop-cons}
 use Rattle.std.specs.Written.{decimal}
 use Rattle.std.proofs.shelf.Lists.{getD-past, take-rest}
 use Rattle.std.proofs.shelf.Tests.{cases-lt}
@@ -22,10 +22,8 @@ use Rattle.sheet.specs.Stops.{Stops}
 use Rattle.sheet.specs.Line.{Wrong}
 use Rattle.sheet.proofs.Accepts.{content-at-end, accepted}
 use Rattle.sheet.proofs.Justified.{justified-length}
-use Rattle.sheet.proofs.Fields.{sized-fields}
-
-station-fits : (s : ℕ) → s < 1000 → Fits Natural 3 (Number s)
-station-fits s h = (h, λ z. let u : _≡_ {A = ℕ} 0 1 = cc in absurd (omega arith))
+use Rattle.sheet.proofs.Words.{same-first, same-second}
+use Rattle.sheet.proofs.Fields.{station-fits, sized-fields}
 
 same-content : (f : Form) (w : ℕ) (v u : Content) → 1 ≤ w → w ≤ 8 → Fits f w v → Fits f w u → justified w (shown v) ≡ justified w (shown u) → v ≡ u
 same-content f w v u o h p q e =
@@ -34,21 +32,18 @@ same-content f w v u o h p q e =
     let c = ap (content-at-end f true Blank) e in cc
 
 module _ (f : Form) (s t : ℕ) (v u : Content) (hs : s < 1000) (ht : t < 1000) (hv : Fits f 8 v) (hu : Fits f 8 u) (e : fields-text s (shown v) ≡ fields-text t (shown u)) where
+  abbrev after : Content → List ℕ
+  after x = justified 8 (shown x) ++ (10 ∷ [])
+
   same-station : s ≡ t
   same-station =
-      let p = justified-length 3 (decimal s) in
-      let q = justified-length 3 (decimal t) in
-      let a : justified 3 (decimal s) ≡ justified 3 (decimal t) = sym (take-at (justified 3 (decimal s)) (justified 8 (shown v) ++ (10 ∷ [])) 3 p) ∙ ap (take 3) e ∙ take-at (justified 3 (decimal t)) (justified 8 (shown u) ++ (10 ∷ [])) 3 q in
+      let a = same-first 3 (justified 3 (decimal s)) (justified 3 (decimal t)) (after v) (after u) (justified-length 3 (decimal s)) (justified-length 3 (decimal t)) e in
       let b = same-content Natural 3 (Number s) (Number t) (lit≤ tt) (lit≤ tt) (station-fits s hs) (station-fits t ht) a in cc
 
   same-value : v ≡ u
   same-value =
-      let p = justified-length 3 (decimal s) in
-      let q = justified-length 3 (decimal t) in
-      let m = justified-length 8 (shown v) in
-      let n = justified-length 8 (shown u) in
-      let a : justified 8 (shown v) ++ (10 ∷ []) ≡ justified 8 (shown u) ++ (10 ∷ []) = sym (drop-at (justified 3 (decimal s)) (justified 8 (shown v) ++ (10 ∷ [])) 3 p) ∙ ap (drop 3) e ∙ drop-at (justified 3 (decimal t)) (justified 8 (shown u) ++ (10 ∷ [])) 3 q in
-      same-content f 8 v u (lit≤ tt) (lit≤ tt) hv hu (sym (take-at (justified 8 (shown v)) (10 ∷ []) 8 m) ∙ ap (take 8) a ∙ take-at (justified 8 (shown u)) (10 ∷ []) 8 n)
+      let a = same-second 3 (justified 3 (decimal s)) (justified 3 (decimal t)) (after v) (after u) (justified-length 3 (decimal s)) (justified-length 3 (decimal t)) e in
+      same-content f 8 v u (lit≤ tt) (lit≤ tt) hv hu (same-first 8 (justified 8 (shown v)) (justified 8 (shown u)) (10 ∷ []) (10 ∷ []) (justified-length 8 (shown v)) (justified-length 8 (shown u)) a)
 
 -- lines by their letter, their station and the content of their value field
 pub record Lines (X : Type 0) (text-of : X → List ℕ) (Fit : X → Type 0) : Type 1 where

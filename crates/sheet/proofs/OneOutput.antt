@@ -3,8 +3,6 @@ use mathlib.Core.Path.{_≡_, refl, sym, ap, subst, _∙_}
 use mathlib.Core.List.{List, _++_}
 use Prim.Native.Nat.{ℕ}
 use native.Mathlib.Omega.{arith}
-use lib.ListN.{take, drop}
-use lib.Seq.{take-at, drop-at}
 use Rattle.std.specs.declared.result.Result.{Result}
 use Rattle.std.specs.declared.result.Result.the-variants.{Ok, Err}
 use Rattle.lock.specs.Meaning.{Meaning}
@@ -20,7 +18,8 @@ use Rattle.sheet.specs.Answer.{Run-on, Run, Served, Begins, too-long, wrong-fi
 use Rattle.sheet.proofs.Lines.{one}
 use Rattle.sheet.proofs.SetUpLines.{set-ups}
 use Rattle.sheet.proofs.OneReading.{one-column, legal-not-wrong, one-reading}
-use Rattle.sheet.proofs.Outputs.{set-up-length}
+use Rattle.sheet.proofs.LineLengths.{set-up-length}
+use Rattle.sheet.proofs.Words.{same-first, same-second}
 
 module _ {L : Type 0} (m : Meaning L) where
   same-lines : (r : Rack L) (later before out other : List ℕ) → Run-on m r later before out → Run-on m r later before other → out ≡ other
@@ -42,12 +41,10 @@ module _ (text : List ℕ) where
     both = sym (p .split) ∙ q .split
 
     same-set-up : x ≡ y
-    same-set-up =
-        one SetUp set-up-text Fits-set-up set-ups x y (p .fits) (q .fits)
-        (sym (take-at (set-up-text x) l 13 (set-up-length x)) ∙ ap (take 13) both ∙ take-at (set-up-text y) k 13 (set-up-length y))
+    same-set-up = one SetUp set-up-text Fits-set-up set-ups x y (p .fits) (q .fits) (same-first 13 (set-up-text x) (set-up-text y) l k (set-up-length x) (set-up-length y) both)
 
     same-later : l ≡ k
-    same-later = sym (drop-at (set-up-text x) l 13 (set-up-length x)) ∙ ap (drop 13) both ∙ drop-at (set-up-text y) k 13 (set-up-length y)
+    same-later = same-second 13 (set-up-text x) (set-up-text y) l k (set-up-length x) (set-up-length y) both
 
   -- and is then not wrong
   not-both : (x : SetUp) (l : List ℕ) (c : ℕ) → Begins text x l → Wrong Legal-first text c → ⊥

@@ -4,8 +4,8 @@ use mathlib.Core.List.{List, [], _∷_, _++_, append-assoc}
 use mathlib.Core.Logic.{inl, inr}
 use Prim.Native.Nat.{ℕ, _+_, _<_}
 use native.Mathlib.Omega.{arith}
-use lib.ListN.{length, take, drop, length-append}
-use lib.Seq.{take-at, drop-at, take-append-le}
+use lib.ListN.{length, length-append}
+use lib.Seq.{take-append-le}
 use Rattle.std.specs.shelf.Lists.{All, joined}
 use Rattle.std.proofs.shelf.Tests.{cases-lt}
 use Rattle.sheet.specs.declared.calls.Stop.{Stop}
@@ -15,7 +15,8 @@ use Rattle.sheet.specs.Line.{call-text, Fits-call, Legal-later, Wrong}
 use Rattle.sheet.specs.Sheet.{Ends, One-reading}
 use Rattle.sheet.proofs.Lines.{one}
 use Rattle.sheet.proofs.CallLines.{calls}
-use Rattle.sheet.proofs.Readings.{call-length}
+use Rattle.sheet.proofs.LineLengths.{call-length}
+use Rattle.sheet.proofs.Words.{same-first, same-second}
 
 module _ (Legal : List ℕ → Type 0) where
   not-before : (text : List ℕ) (c d : ℕ) → Wrong Legal text c → Wrong Legal text d → c < d → ⊥
@@ -44,13 +45,6 @@ stuck at rest stop.End h x more f e =
 stuck at rest (stop.Wrong line column) h x more f e =
     legal-not-wrong Legal-later (call-text x) more (call-length x) (x, (f, refl)) column (subst (λ r. Wrong Legal-later r column) e (h .1 .1))
 
-module _ (x y : Call) (l m : List ℕ) (e : call-text x ++ l ≡ call-text y ++ m) where
-  same-line : call-text x ≡ call-text y
-  same-line = sym (take-at (call-text x) l 13 (call-length x)) ∙ ap (take 13) e ∙ take-at (call-text y) m 13 (call-length y)
-
-  same-after : l ≡ m
-  same-after = sym (drop-at (call-text x) l 13 (call-length x)) ∙ ap (drop 13) e ∙ drop-at (call-text y) m 13 (call-length y)
-
 abbrev after : List Call → List ℕ → List ℕ
 after xs rest = joined call-text xs ++ rest
 
@@ -60,8 +54,8 @@ same-calls [] (y ∷ ys) r q f g s t e = absurd (s y (after ys q) (g .0) (e ∙ 
 same-calls (x ∷ xs) [] r q f g s t e = absurd (t x (after xs r) (f .0) (sym e ∙ append-assoc (call-text x) (joined call-text xs) r))
 same-calls (x ∷ xs) (y ∷ ys) r q f g s t e =
     let h : call-text x ++ after xs r ≡ call-text y ++ after ys q = sym (append-assoc (call-text x) (joined call-text xs) r) ∙ e ∙ append-assoc (call-text y) (joined call-text ys) q in
-    let a : x ≡ y = one Call call-text Fits-call calls x y (f .0) (g .0) (same-line x y (after xs r) (after ys q) h) in
-    let b = same-calls xs ys r q (f .1) (g .1) s t (same-after x y (after xs r) (after ys q) h) in
+    let a : x ≡ y = one Call call-text Fits-call calls x y (f .0) (g .0) (same-first 13 (call-text x) (call-text y) (after xs r) (after ys q) (call-length x) (call-length y) h) in
+    let b = same-calls xs ys r q (f .1) (g .1) s t (same-second 13 (call-text x) (call-text y) (after xs r) (after ys q) (call-length x) (call-length y) h) in
     let c = b .0 in
     (cc, b .1)
 

@@ -12,13 +12,12 @@ use Rattle.rack.specs.declared.calls.Rack.{Rack}
 use Rattle.sheet.specs.declared.calls.Stop.{Stop}
 use Rattle.sheet.specs.declared.line.Call.{Call}
 use Rattle.sheet.specs.declared.line.SetUp.{SetUp}
-use Rattle.sheet.specs.Line.{set-up-text, kind-letter, Set-up-read}
+use Rattle.sheet.specs.Line.{set-up-text, Set-up-read}
 use Rattle.sheet.specs.Output.{end-lines}
 use Rattle.sheet.specs.Rack.{rack-after}
 use Rattle.sheet.specs.Sheet.{Later}
 use Rattle.sheet.specs.Answer.{Run-on, Begins}
-use Rattle.std.specs.Written.{decimal}
-use Rattle.sheet.proofs.Readings.{line-length, has-line}
+use Rattle.sheet.proofs.LineLengths.{set-up-length, has-line}
 use Rattle.sheet.proofs.CallRuns.{answers}
 
 pub run-on : {L : Type 0} (m : Meaning L) (r r′ : Rack L) (later before between out : List ℕ) (given calls : List Call) (stop : Stop) (v : View) → given ≡ calls → Later 2 later calls stop →
@@ -31,9 +30,6 @@ run-on m r r′ later before between out given calls stop v same read rack board
       lines = ended ∙ ap (λ z. z ++ end-lines stop v) made ∙ append-assoc before (answers m r given) (end-lines stop v) ∙
           ap (λ z. before ++ (answers m r given ++ end-lines stop z)) (board ∙ ap (board-answer m) rack);
     }
-
-pub set-up-length : (x : SetUp) → length (set-up-text x) ≡ 13
-set-up-length x = line-length (kind-letter (x .kind)) (x .stations) (decimal (x .start))
 
 -- a set-up that is read has the first 13 bytes
 module _ (text : List ℕ) (x : SetUp) (h : Set-up-read text (Ok x)) where

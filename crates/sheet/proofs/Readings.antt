@@ -1,9 +1,9 @@
 -- The loop that reads call after call: the text so far is the texts of the calls so far.
 use mathlib.Core.Path.{_≡_, refl, sym, ap, subst, _∙_}
 use mathlib.Core.List.{List, [], _∷_, _++_}
-use Prim.Native.Nat.{ℕ, suc, _+_, _-_, _*_, _<_, _≤_, min}
+use Prim.Native.Nat.{ℕ, _+_, _-_, _*_, _<_, _≤_}
 use native.Mathlib.Omega.{arith}
-use lib.ListN.{length, take, drop, length-take, length-drop}
+use lib.ListN.{length, take, drop, length-drop}
 use lib.Seq.{take-add}
 use Rattle.std.specs.shelf.Lists.{All, joined}
 use Rattle.std.specs.declared.result.Result.{Result}
@@ -12,20 +12,9 @@ use Rattle.std.proofs.shelf.Lists.{take-append-drop, take-all, take-rest, joine
 use Rattle.std.proofs.shelf.Elements.{all-push}
 use Rattle.sheet.specs.declared.calls.Stop.the-variants as stop
 use Rattle.sheet.specs.declared.line.Call.{Call}
-use Rattle.sheet.specs.Line.{line-text, call-text, call-letter, call-station, call-value, Fits-call, Call-read}
+use Rattle.sheet.specs.Line.{call-text, Fits-call, Call-read}
 use Rattle.sheet.specs.Sheet.{Later}
-use Rattle.std.specs.Written.{signed}
-use Rattle.sheet.proofs.Fields.{fields-length}
-
-pub line-length : (a s : ℕ) (ds : List ℕ) → length (line-text a s ds) ≡ 13
-line-length a s ds = ap suc (fields-length s ds)
-
-pub call-length : (x : Call) → length (call-text x) ≡ 13
-call-length x = line-length (call-letter x) (call-station x) (signed (call-value x))
-
--- a text that begins with a line has its 13 bytes
-pub has-line : (text line : List ℕ) → length line ≡ 13 → take 13 text ≡ line → 13 ≤ length text
-has-line text line n e = let m : min 13 (length text) ≡ 13 = sym (length-take 13 text) ∙ ap length e ∙ n in omega arith
+use Rattle.sheet.proofs.LineLengths.{call-length, has-line}
 
 pub record Reading (text : List ℕ) (calls : List Call) (at : ℕ) : Type 0 where
   pub fits : All Fits-call calls
@@ -41,7 +30,7 @@ module _ (text : List ℕ) (calls : List Call) (at : ℕ) (r : Reading text call
   read-on : (c : Result Call ℕ) → Read c → Call-read (drop at text) c
   read-on c h = subst (λ t. Call-read t c) (take-rest text at) h
 
-  pub room : (x : Call) → Read (Ok x) → at + 13 ≤ length text
+  room : (x : Call) → Read (Ok x) → at + 13 ≤ length text
   room x h =
       let n = has-line (drop at text) (call-text x) (call-length x) (read-on (Ok x) h .1) in
       let d = length-drop at text in

@@ -38,7 +38,7 @@ more-figures n b o h g k =
     let back : 48 + (n * 10 + (b - 48)) % 10 ≡ b = omega arith in
     rw (decimal-step (n * 10 + (b - 48)) (omega arith) (omega arith), front, back)
 
-pub shown-more : (f : Form) (p j : ℕ) (s : Content) (b : ℕ) (t : Content) → p ≤ 10 ^ 8 → Valid f p (suc j) s → content-after f (eqb j 0) s b ≡ Some t → (shown s ++ (b ∷ []) ≡ shown t) ⊎ ((s ≡ Blank) × (t ≡ Blank) × (b ≡ 32))
+shown-more : (f : Form) (p j : ℕ) (s : Content) (b : ℕ) (t : Content) → p ≤ 10 ^ 8 → Valid f p (suc j) s → content-after f (eqb j 0) s b ≡ Some t → (shown s ++ (b ∷ []) ≡ shown t) ⊎ ((s ≡ Blank) × (t ≡ Blank) × (b ≡ 32))
 shown-more f p j Blank b t h v e = grind (arith, tells, one-figure)
 shown-more f p j Minus b t h v e = grind (arith, tells, one-figure)
 shown-more f p j (Number n) b t h v e = grind (arith, tells, more-figures)

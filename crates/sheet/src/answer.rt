@@ -98,6 +98,8 @@ pub fn answer(heap: Global, text: &[u8]) -> Result<Vec<u8>, AllocError>
 }
 
 // A sheet has one output.
-pub fn sheet_has_one_output()
+pub fn sheet_has_one_output() -> u8
     ensures { λ _. ⌜ One-output ⌝ }
-{}
+{
+    0
+}

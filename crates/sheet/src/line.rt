@@ -7,6 +7,7 @@ use feed::job::JobPartialEq;
 
 // What a line says.
 
+// The lock of a rack, by the letter of the sheet's first line.
 #[derive(Clone, Copy, PartialEq, Eq, Debug)]
 pub enum LockKind {
     OneBit,

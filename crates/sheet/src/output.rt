@@ -29,6 +29,7 @@ impl SheetRefusal {
         }
     }
 
+    // 'X' with the wrong column and its line, or with 0 and 0.
     pub(crate) fn to_line(self) -> [u8; 13]
         ensures { λ r. ⌜ r ≡ sheet-refusal-line self ⌝ }
     {
@@ -41,6 +42,7 @@ impl SheetRefusal {
     }
 }
 
+// The answer to a set-up: its letter, its number of stations and the answer's number.
 pub(crate) fn line_of_set_up(set_up: SetUp, number: u8) -> [u8; 13]
     ensures { λ r. ⌜ r ≡ set-up-line «set_up» number ⌝ }
 {
@@ -48,6 +50,7 @@ pub(crate) fn line_of_set_up(set_up: SetUp, number: u8) -> [u8; 13]
     write_line(letter, set_up.stations, Content::Number(number as u64))
 }
 
+// The answer to a call: its letter, its station and the answer's number.
 pub(crate) fn line_of_call(call: Call, number: u8) -> [u8; 13]
     ensures { λ r. ⌜ r ≡ call-line call number ⌝ }
 {

@@ -61,6 +61,7 @@ fn content_of(number: i32) -> Content
     }
 }
 
+// A line of the output for no station.
 pub(crate) fn write_signed(letter: u8, number: i32) -> [u8; 13]
     ensures { λ r. ⌜ r ≡ line-text letter 0 (signed number) ⌝ }
 {
