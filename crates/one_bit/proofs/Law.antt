@@ -1,32 +1,28 @@
 -- The laws that the lock owes.
-use mathlib.Core.Path.{_≡_, refl, sym, ap, _∙_, subst}
-use mathlib.Core.Bool.{true, false}
+use mathlib.Core.Path.{_≡_, ap, _∙_}
+use mathlib.Core.Bool.{true}
 use mathlib.Core.Logic.{_⊎_, inl, inr, ⊎-elim}
 use Prim.Native.Nat.{ℕ, _<_, _≤_}
-use native.Mathlib.Nat.{le-of-lt}
 use native.Mathlib.Omega.{arith}
-use Rattle.std.proofs.shelf.Tests.{cases-eq, cases-bool}
-use Rattle.std.specs.Options.{isSome}
+use Rattle.std.proofs.shelf.Tests.{cases-eq}
 use Rattle.std.specs.declared.option.Option.the-variants.{Some}
-use Rattle.lock.specs.declared.stage.Stage.{Stage}
 use Rattle.lock.specs.declared.stage.Stage.the-variants.{Rest, Trying, Inside, Leaving}
-use Rattle.lock.specs.Stages.{asked, moved, Others-rest, is-resting, is-moving, is-inside}
-use Rattle.lock.specs.Meaning.{Kept, Lawful}
+use Rattle.lock.specs.Stages.{asked, moved, Others-rest, is-resting, is-inside}
+use Rattle.lock.specs.Meaning.{Lawful}
 use Rattle.lock.proofs.Moves.{moved-same}
 use Rattle.lock.proofs.Tests.{resting-asked, inside-asked}
-use Rattle.one_bit.specs.declared.place.Place.{Place}
 use Rattle.one_bit.specs.declared.place.Place.the-variants.{Idle, Raise, Lower}
 use Rattle.one_bit.specs.declared.OneBit.{OneBit}
 use Rattle.one_bit.specs.Places.{stage-at, access-at, to-come}
 use Rattle.one_bit.specs.Registers.{place-of}
-use Rattle.one_bit.specs.Turns.{stepped, turned}
-use Rattle.one_bit.specs.Sound.{Numbered, Sound}
+use Rattle.one_bit.specs.Turns.{turned}
+use Rattle.one_bit.specs.Sound.{Sound}
 use Rattle.one_bit.specs.Meaning.{stages, begun, ended, one-bit-meaning}
-use Rattle.one_bit.proofs.Stations.{moving-access, length-stages, numbered, stage-there, place-out, in-or-out}
-use Rattle.one_bit.proofs.Put.{put, stages-put, place-here, place-other}
+use Rattle.one_bit.proofs.Stations.{length-stages, numbered, stage-there}
+use Rattle.one_bit.proofs.Put.{put, stages-put, place-here}
 use Rattle.one_bit.proofs.Next.{at-leaving, to-come-most, next-falls, next-stage}
-use Rattle.one_bit.proofs.Turn.{on-bus, after, after-from, turned-put, turned-sound, alone-after}
-use Rattle.one_bit.proofs.Ends.{begun-put, begun-sound, within, ended-put, ended-sound}
+use Rattle.one_bit.proofs.Turn.{on-bus, after, after-from, turned-put, alone-after}
+use Rattle.one_bit.proofs.Ends.{begun-put, within, ended-put}
 use Rattle.one_bit.proofs.Kept.{begun-same, ended-same, turned-same, begun-kept, ended-kept, turned-kept}
 
 module _ (l : OneBit) (i : ℕ) (s : Sound l) where
