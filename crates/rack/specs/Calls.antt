@@ -30,6 +30,7 @@ use Rattle.rack.specs.declared.answers.Refusal.{Refusal}
 use Rattle.rack.specs.declared.answers.Refusal.the-variants.{Start, StationNumber, TrimValue, SignValue, NotResting, Resting}
 use Rattle.rack.specs.declared.answers.Served.{Served}
 use Rattle.rack.specs.declared.answers.Served.the-variants.{StillTrying, NowInside, Working, Ended, StillLeaving, NowResting}
+use Rattle.rack.specs.declared.answers.Seen.{Seen}
 use Rattle.rack.specs.declared.answers.View.{View}
 use Rattle.rack.specs.declared.calls.Station.{Station}
 use Rattle.rack.specs.declared.calls.Rack.{Rack}
@@ -162,6 +163,15 @@ slot-answer m r i = slot-said m r i (stage-of m r i)
 
 abbrev pub slot-rack : {L : Type 0} → Meaning L → Rack L → ℕ → Rack L
 slot-rack m r i = slot-left m r i (stage-of m r i)
+
+-- LOOK, by the station's stage
+
+abbrev pub look-said : Station → Option Stage → Result Seen Refusal
+look-said s None = Err StationNumber
+look-said s (Some x) = Ok (record { stage = x; count = s .count; last = s .last })
+
+abbrev pub look-answer : {L : Type 0} → Meaning L → Rack L → ℕ → Result Seen Refusal
+look-answer m r i = look-said (kept r i) (stage-of m r i)
 
 -- BOARD
 

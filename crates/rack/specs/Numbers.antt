@@ -6,6 +6,7 @@ use Rattle.std.specs.declared.result.Result.{Result}
 use Rattle.std.specs.declared.result.Result.the-variants.{Ok, Err}
 use Rattle.lock.specs.Numbers.{wrong-count-number}
 use Rattle.feed.specs.Job.{verdict-number}
+use Rattle.feed.specs.declared.job.Verdict.{Verdict}
 use Rattle.rack.specs.declared.answers.Refusal.{Refusal}
 use Rattle.rack.specs.declared.answers.Refusal.the-variants.{StationCount, Start, StationNumber, TrimValue, SignValue, NotResting, Resting}
 use Rattle.rack.specs.declared.answers.Served.{Served}
@@ -36,6 +37,11 @@ order-number (Err f) = refusal-number f
 abbrev pub slot-number : Result Served Refusal → ℕ
 slot-number (Ok s) = served-number s
 slot-number (Err f) = refusal-number f
+
+-- of the last verdict, 0 before the first
+abbrev pub last-number : Option Verdict → ℕ
+last-number None = 0
+last-number (Some v) = verdict-number v
 
 -- of the station inside, 0 if there is none
 abbrev pub inside-number : Option ℕ → ℕ

@@ -1,10 +1,13 @@
 ghost use mathlib.Core.Path.{_≡_};
-ghost use Rattle.rack.specs.Numbers.{refusal-number, served-number, inside-number};
+ghost use Rattle.rack.specs.Numbers.{refusal-number, served-number, last-number, inside-number};
 ghost use Rattle.rack.specs.declared.answers.Refusal.the-variants.{StationCount};
 use feed::job::Verdict;
 use feed::job::VerdictDebug;
 use feed::job::VerdictPartialEq;
 use lock::count::WrongStationCount;
+use lock::stage::Stage;
+use lock::stage::StageDebug;
+use lock::stage::StagePartialEq;
 
 // Why a call is sent back.
 #[derive(Clone, Copy, PartialEq, Eq, Debug)]
@@ -73,6 +76,26 @@ impl Served {
             Served::StillLeaving => 13,
             Served::NowResting => 14,
             Served::Ended(verdict) => 20 + verdict.number(),
+        }
+    }
+}
+
+// What a look at a station shows: its stage, its accepted slots since its last order, and its last verdict if it has one.
+#[derive(Clone, Copy, PartialEq, Eq, Debug)]
+pub struct Seen {
+    pub stage: Stage,
+    pub count: u16,
+    pub last: Option<Verdict>,
+}
+
+impl Seen {
+    // The number of the last verdict, 0 before the first.
+    pub fn last_number(self) -> u8
+        ensures { λ r. ⌜ r ≡ last-number (self .last) ⌝ }
+    {
+        match self.last {
+            Some(verdict) => verdict.number(),
+            None => 0,
         }
     }
 }

@@ -1,8 +1,9 @@
 ghost use mathlib.Core.Path.{_≡_};
 ghost use Prim.Native.Nat.{_≤_};
 ghost use Rattle.std.specs.declared.option.Option.the-variants.{Some, None};
-ghost use Rattle.rack.specs.Calls.{stage-of, fault, order-answer, order-rack, slot-answer, slot-rack, turned-rack, worked-answer, worked-rack, inside-among, board-answer, set-up as setting-up};
+ghost use Rattle.rack.specs.Calls.{stage-of, fault, order-answer, order-rack, slot-answer, slot-rack, turned-rack, worked-answer, worked-rack, look-answer, inside-among, board-answer, set-up as setting-up};
 use crate::answers::Refusal;
+use crate::answers::Seen;
 use crate::answers::Served;
 use crate::answers::View;
 use feed::board::Board;
@@ -161,6 +162,19 @@ impl<L: Lock> Rack<L> {
                 let last = Some(verdict);
                 self.stations[station - 1] = Station { task, count, last };
                 Served::Ended(verdict)
+            }
+        }
+    }
+
+    // A station's stage, count and last verdict. It alters nothing.
+    pub fn look(&self, station: usize) -> Result<Seen, Refusal>
+        ensures { λ r. ⌜ r ≡ look-answer meaning (now (self .entry)) station ⌝ }
+    {
+        match self.stage(station) {
+            None => Err(Refusal::StationNumber),
+            Some(stage) => {
+                let Station { count, last, .. } = self.stations[station - 1];
+                Ok(Seen { stage, count, last })
             }
         }
     }

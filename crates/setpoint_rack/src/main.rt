@@ -1,5 +1,5 @@
 // Reads a sheet from standard input, and writes the answers to standard output.
-use sheet::answer::answer;
+use answering::answer::answer;
 use std::error::AnyError;
 use std::io::Read;
 use std::io::Write;

@@ -14,7 +14,3 @@ pub mod Written
 pub mod LineLengths
 pub mod Readings
 pub mod OneReading
-pub mod CallRuns
-pub mod Added
-pub mod Outputs
-pub mod OneOutput

@@ -5,12 +5,14 @@ use Prim.Native.Nat.{ℕ, _+_, _^_, _<_, _≤_}
 use lib.IntN.{ℤ, pos, negsuc}
 use lib.ListN.{length, take}
 use Rattle.std.specs.Written.{decimal, signed}
+use Rattle.std.specs.declared.option.Option.{Option}
+use Rattle.std.specs.declared.option.Option.the-variants.{Some, None}
 use Rattle.std.specs.declared.result.Result.{Result}
 use Rattle.std.specs.declared.result.Result.the-variants.{Ok, Err}
 use Rattle.feed.specs.declared.job.Job.{Job}
 use Rattle.feed.specs.declared.job.Job.the-variants.{Trim, Undo, Sign}
-use Rattle.sheet.specs.declared.line.LockKind.{LockKind}
-use Rattle.sheet.specs.declared.line.LockKind.the-variants.{OneBit}
+use Rattle.kinds.specs.declared.LockKind.{LockKind}
+use Rattle.kinds.specs.declared.LockKind.the-variants.{Fast, OneBit}
 use Rattle.sheet.specs.declared.line.SetUp.{SetUp}
 use Rattle.sheet.specs.declared.line.Call.{Call}
 use Rattle.sheet.specs.declared.line.Call.the-variants.{Order, Slot}
@@ -20,8 +22,9 @@ use Rattle.sheet.specs.Field.{justified}
 abbrev pub line-text : ℕ → ℕ → List ℕ → List ℕ
 line-text letter station value = letter ∷ (justified 3 (decimal station) ++ (justified 8 value ++ (10 ∷ [])))
 
--- 'B'
+-- 'F' and 'B'
 abbrev pub kind-letter : LockKind → ℕ
+kind-letter Fast = 70
 kind-letter OneBit = 66
 
 abbrev pub set-up-text : SetUp → List ℕ
@@ -82,6 +85,11 @@ pub record Wrong (Legal : List ℕ → Type 0) (text : List ℕ) (c : ℕ) : Typ
   pub within : c ≤ length text + 1
   pub none : (l : List ℕ) → Legal l → take c l ≡ take c text → ⊥
   pub some : (k : ℕ) → k < c → (l : List ℕ) × (Legal l × (take k l ≡ take k text))
+
+-- what the readers answer: the letter's kind of lock, or nothing for a letter of none; what a line says, or its wrong column
+abbrev pub Kind-read : ℕ → Option LockKind → Type 0
+Kind-read letter (Some k) = letter ≡ kind-letter k
+Kind-read letter None = (k : LockKind) → letter ≡ kind-letter k → ⊥
 
 abbrev pub Set-up-read : List ℕ → Result SetUp ℕ → Type 0
 Set-up-read text (Ok x) = Fits-set-up x × (take 13 text ≡ set-up-text x)

@@ -46,8 +46,6 @@ pub fn read_calls(heap: Global, text: &[u8]) -> Result<Calls, AllocError>
 }
 
 // A text is read in one way.
-pub fn text_is_read_in_one_way() -> u8
+pub fn text_is_read_in_one_way()
     ensures { λ _. ⌜ One-reading ⌝ }
-{
-    0
-}
+{}

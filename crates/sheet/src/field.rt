@@ -15,7 +15,7 @@ pub(crate) enum Form {
 
 // What the columns of a field hold: nothing, a minus sign alone, a number, or a number after a minus sign.
 #[derive(Clone, Copy)]
-pub(crate) enum Content {
+pub enum Content {
     Blank,
     Minus,
     Number(u64),

@@ -2,14 +2,14 @@ ghost use mathlib.Core.Path.{_≡_};
 ghost use Prim.Native.Nat.{ℕ, _<_};
 ghost use lib.ListN.{getD};
 ghost use Rattle.sheet.specs.Field.{Fields-read};
-ghost use Rattle.sheet.specs.Line.{Set-up-read, Call-read, One-set-up, One-call};
+ghost use Rattle.sheet.specs.Line.{Kind-read, Set-up-read, Call-read, One-set-up, One-call};
 use crate::field::Content;
 use crate::field::Form;
 use crate::field::read_field;
 use crate::line::Call;
-use crate::line::LockKind;
 use crate::line::SetUp;
 use feed::job::Job;
+use kinds::LockKind;
 
 // The 12 columns after a line's letter, with 0 where the text has ended: no line has that byte.
 fn filled(rest: &[u8]) -> [u8; 12]
@@ -38,6 +38,17 @@ fn read_fields(form: Form, rest: &[u8]) -> Result<(usize, Content), usize>
     Ok((station.size() as usize, value))
 }
 
+// The kind of lock with that letter.
+fn kind_of(letter: u8) -> Option<LockKind>
+    ensures { λ r. ⌜ Kind-read letter r ⌝ }
+{
+    match char::from(letter) {
+        'F' => Some(LockKind::Fast),
+        'B' => Some(LockKind::OneBit),
+        _ => None,
+    }
+}
+
 // Reads the first line of a sheet: what it says, or its wrong column.
 pub fn read_set_up(text: &[u8]) -> Result<SetUp, usize>
     ensures { λ r. ⌜ Set-up-read (now (text .entry)) r ⌝ }
@@ -45,9 +56,8 @@ pub fn read_set_up(text: &[u8]) -> Result<SetUp, usize>
     let [letter, rest @ ..] = text else {
         return Err(1);
     };
-    let kind = match char::from(*letter) {
-        'B' => LockKind::OneBit,
-        _ => return Err(1),
+    let Some(kind) = kind_of(*letter) else {
+        return Err(1);
     };
     let (stations, start) = read_fields(Form::Natural, rest)?;
     Ok(SetUp {
@@ -86,9 +96,7 @@ pub fn read_call(text: &[u8]) -> Result<Call, usize>
 }
 
 // A legal line says one thing.
-pub fn legal_line_says_one_thing() -> u8
+pub fn legal_line_says_one_thing()
     ensures first { λ _. ⌜ One-set-up ⌝ }
     ensures later { λ _. ⌜ One-call ⌝ }
-{
-    0
-}
+{}

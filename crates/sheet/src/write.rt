@@ -29,7 +29,7 @@ fn value_columns(value: Content) -> [u8; 8]
 }
 
 // A line of the output. Of a number with too many figures it has the last ones.
-pub(crate) fn write_line(letter: u8, station: usize, value: Content) -> [u8; 13]
+pub fn write_line(letter: u8, station: usize, value: Content) -> [u8; 13]
     ensures { λ r. ⌜ r ≡ line-text letter station (shown value) ⌝ }
 {
     let [hundreds, tens, ones] = station_columns(station);
@@ -62,7 +62,7 @@ fn content_of(number: i32) -> Content
 }
 
 // A line of the output for no station.
-pub(crate) fn write_signed(letter: u8, number: i32) -> [u8; 13]
+pub fn write_signed(letter: u8, number: i32) -> [u8; 13]
     ensures { λ r. ⌜ r ≡ line-text letter 0 (signed number) ⌝ }
 {
     write_line(letter, 0, content_of(number))

@@ -1,0 +1,4 @@
+pub mod Loops
+pub mod Added
+pub mod Outputs
+pub mod OneOutput

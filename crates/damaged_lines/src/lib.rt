@@ -1,0 +1,3 @@
+// Tests alone: the wrong columns of damaged lines.
+#[cfg(test)]
+mod tests;

@@ -1,0 +1,2 @@
+pub mod Assured
+pub mod Taken

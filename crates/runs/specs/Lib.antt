@@ -1,0 +1,5 @@
+pub mod Events
+pub mod Told
+pub mod Ledger
+pub mod Promise
+pub mod Refused
