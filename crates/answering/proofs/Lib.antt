@@ -1,4 +1,5 @@
 pub mod Loops
 pub mod Added
-pub mod Outputs
+pub mod RunLines
+pub mod FirstLine
 pub mod OneOutput

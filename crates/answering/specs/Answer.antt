@@ -19,11 +19,15 @@ use Rattle.answering.specs.declared.output.SheetRefusal.the-variants.{WrongFor
 use Rattle.answering.specs.Calls.{to-call}
 use Rattle.answering.specs.Output.{set-up-line, event-line, end-lines, sheet-refusal-line}
 
+-- why the set-up is refused, if it is
+abbrev pub refusal-of : SetUp → Option Refusal
+refusal-of x = set-up-refusal (x .stations) (x .start)
+
 -- the set-up's line, a line for what came of each call, and the lines of the end
 abbrev pub run-lines : SetUp → List Call → Stop → List ℕ
 run-lines x calls stop = set-up-line x 0 ++ (joined event-line (kind-events (x .kind) (x .stations) (x .start) calls) ++ end-lines stop (kind-board (x .kind) (x .stations) (x .start) calls))
 
--- the calls are those that the text after the first line reads as
+-- the output of a set-up that is not refused: the calls are those that the text after the first line reads as
 pub record Run (x : SetUp) (later out : List ℕ) : Type 0 where
   pub lines : List Line
   pub stop : Stop
@@ -34,10 +38,6 @@ pub record Run (x : SetUp) (later out : List ℕ) : Type 0 where
 abbrev pub Served : Option Refusal → SetUp → List ℕ → List ℕ → Type 0
 Served (Some refusal) x later out = out ≡ set-up-line x (refusal-number refusal)
 Served None x later out = Run x later out
-
--- why the set-up is refused, if it is
-abbrev pub refusal-of : SetUp → Option Refusal
-refusal-of x = set-up-refusal (x .stations) (x .start)
 
 -- the text begins with a set-up
 pub record Begins (text : List ℕ) (x : SetUp) (later : List ℕ) : Type 0 where

@@ -9,10 +9,12 @@ use Rattle.sheet.specs.declared.line.Call.{Call as Line}
 use Rattle.sheet.specs.declared.line.Call.the-variants.{Order, Slot}
 use Rattle.sheet.specs.declared.line.SetUp.{SetUp}
 
+-- the call that a line asks for
 abbrev pub to-call : Line → Call
 to-call (Order station job) = call.Order station job
 to-call (Slot station) = call.Slot station
 
+-- what came of the calls, and what the board shows after them, by the kind of lock, the number of stations and the start
 pub record Run-made (x : SetUp) (calls : List Call) (ran : KindRan) : Type 0 where
   pub events-are : events-in ran ≡ kind-events (x .kind) (x .stations) (x .start) calls
   pub board-is : board-in ran ≡ kind-board (x .kind) (x .stations) (x .start) calls

@@ -3,8 +3,8 @@ ghost use mathlib.Core.List.{map};
 ghost use Rattle.std.specs.Of.Vec.{vec-items};
 ghost use Rattle.std.specs.Vec.{made};
 ghost use Rattle.std.specs.declared.option.Option.the-variants.{None};
-ghost use Rattle.kinds.specs.Runs.{set-up-refusal};
 ghost use Rattle.answering.specs.Calls.{to-call, Run-made};
+ghost use Rattle.answering.specs.Answer.{refusal-of};
 use kinds::KindRan;
 use kinds::run_by_kind;
 use runs::events::Call;
@@ -37,7 +37,7 @@ pub(crate) fn calls_of(heap: Global, lines: &[SheetCall]) -> Result<Vec<Call>, A
 
 // Makes the calls on a rack set up by a set-up that is not refused.
 pub(crate) fn make_calls(heap: Global, set_up: SetUp, calls: &[Call]) -> Result<KindRan, AllocError>
-    requires { ⌜ set-up-refusal («set_up» .stations) («set_up» .start) ≡ None ⌝ }
+    requires { ⌜ refusal-of «set_up» ≡ None ⌝ }
     ensures { λ r. ⌜ made r (λ ran. Run-made «set_up» (now (calls .entry)) ran) ⌝ }
 {
     match run_by_kind(heap, set_up.kind, set_up.stations, set_up.start, calls) {

@@ -33,13 +33,13 @@ use Rattle.runs.proofs.Works.{working, ended}
 use Rattle.runs.proofs.Orders.{order-accepted}
 
 module _ {L : Type 0} (m : Meaning L) (laws : Lawful m) (lock : L) (start : ℕ) where
-  module _ (h : Heard) (r : Rack L) (G : Good m lock start h r) where
+  module _ (h : Heard) (r : Rack L) (good : Good m lock start h r) where
     -- what alters nothing, and is neither an order accepted nor a job finished
     unheeded : Good m lock start (record { ledger = h .ledger; accepted = h .accepted + 0; finished = h .finished + 0; stage = h .stage; since = h .since }) r
     unheeded =
-        let A = G .agree in
+        let A = good .agree in
         record {
-          fixed = G .fixed;
+          fixed = good .fixed;
           agree = record {
             size = A .size;
             fit = A .fit;
@@ -55,7 +55,7 @@ module _ {L : Type 0} (m : Meaning L) (laws : Lawful m) (lock : L) (start : ℕ)
       order-step job (Ok x) e =
           let (at-rest, no-fault) = accepted-at-rest (stage-of m r i) (fault job) e in
           let (here, least, most) = known-stage m r i Rest at-rest in
-          order-accepted m laws lock start h r G i most job here no-fault
+          order-accepted m laws lock start h r good i most job here no-fault
       order-step job (Err f) e = unheeded
 
       -- a turn is answered by the stage that it led to
@@ -69,24 +69,24 @@ module _ {L : Type 0} (m : Meaning L) (laws : Lawful m) (lock : L) (start : ℕ)
 
       work-step : i ≤ 16 → asked (m .stages (r .lock)) i ≡ Some Inside → (p : Progress) → to-do r i ≡ p →
           Good m lock start (heard h (Slotted i (Ok (worked p)))) (worked-by m r i p)
-      work-step most here (Going t) e = working m laws lock start h r G i most here t e
-      work-step most here (Finished v) e = ended m laws lock start h r G i most here v e
+      work-step most here (Going t) e = working m laws lock start h r good i most here t e
+      work-step most here (Finished v) e = ended m laws lock start h r good i most here v e
 
       slot-step : (x : Option Stage) → stage-of m r i ≡ x → Good m lock start (heard h (Slotted i (slot-said m r i x))) (slot-left m r i x)
       slot-step None e = unheeded
       slot-step (Some Rest) e = unheeded
       slot-step (Some Trying) e =
           let (here, least, most) = known-stage m r i Trying e in
-          elim (trying-turn m laws (r .lock) i (G .fixed .sound) here) [
-            | inl moves ↦ turn-step tried Trying e moves (still-trying m laws lock start h r G i most here moves)
-            | inr moves ↦ turn-step tried Inside e moves (now-inside m laws lock start h r G i most here moves)
+          elim (trying-turn m laws (r .lock) i (good .fixed .sound) here) [
+            | inl moves ↦ turn-step tried Trying e moves (still-trying m laws lock start h r good i most here moves)
+            | inr moves ↦ turn-step tried Inside e moves (now-inside m laws lock start h r good i most here moves)
           ]
       slot-step (Some Inside) e = let (here, least, most) = known-stage m r i Inside e in work-step most here (to-do r i) refl
       slot-step (Some Leaving) e =
           let (here, least, most) = known-stage m r i Leaving e in
-          elim (leaving-turn m laws (r .lock) i (G .fixed .sound) here) [
-            | inl moves ↦ turn-step left Leaving e moves (still-leaving m laws lock start h r G i most here moves)
-            | inr moves ↦ turn-step left Rest e moves (now-resting m laws lock start h r G i most here moves)
+          elim (leaving-turn m laws (r .lock) i (good .fixed .sound) here) [
+            | inl moves ↦ turn-step left Leaving e moves (still-leaving m laws lock start h r good i most here moves)
+            | inr moves ↦ turn-step left Rest e moves (now-resting m laws lock start h r good i most here moves)
           ]
 
     call-step : (c : Call) → Good m lock start (heard h (event m r c)) (after m r c)
@@ -96,5 +96,5 @@ module _ {L : Type 0} (m : Meaning L) (laws : Lawful m) (lock : L) (start : ℕ)
     call-step Show = unheeded
 
   pub calls-kept : (cs : List Call) (h : Heard) (r : Rack L) → Good m lock start h r → Good m lock start (heard-all h (events m r cs)) (ran m r cs)
-  calls-kept [] h r G = G
-  calls-kept (c ∷ cs) h r G = calls-kept cs (heard h (event m r c)) (after m r c) (call-step h r G c)
+  calls-kept [] h r good = good
+  calls-kept (c ∷ cs) h r good = calls-kept cs (heard h (event m r c)) (after m r c) (call-step h r good c)

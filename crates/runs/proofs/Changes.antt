@@ -58,7 +58,7 @@ module _ {L : Type 0} (m : Meaning L) (lock : L) (start : ℕ) (h : Heard) (r : 
     -- an order accepted tries, and a station inside no more has finished
     pub pays : acceptance e + bit (tries was) + bit (works was) ≡ finishing e + bit (tries is) + bit (works is)
 
-  module _ (G : Good m lock start h r) {was is : Stage} {l : L} {new : Station} {now : Board} (C : Change was is l new now) where
+  module _ (good : Good m lock start h r) {was is : Stage} {l : L} {new : Station} {now : Board} (C : Change was is l new now) where
     abbrev s : List Stage
     s = m .stages (r .lock)
 
@@ -70,23 +70,23 @@ module _ {L : Type 0} (m : Meaning L) (lock : L) (start : ℕ) (h : Heard) (r : 
 
     known-here : Known-after i
     known-here =
-        subst (Known (heard h e) i (asked (moved s i is) i)) (sym (kept-at (r .stations) i new least (G .agree .size) (C .most)))
+        subst (Known (heard h e) i (asked (moved s i is) i)) (sym (kept-at (r .stations) i new least (good .agree .size) (C .most)))
         (subst (λ z. Known (heard h e) i z new) (sym (asked-moved s i is (asked-station s i was (C .here)))) (C .known))
 
     known-there : (j : ℕ) → (j ≡ i → ⊥) → 1 ≤ j → j ≤ length (moved s i is) → Known-after j
     known-there j ne low high =
         known-still (C .others j ne) (asked-others s i j is ne) (kept-off (r .stations) i new least j low ne)
-        (G .agree .known j (low, let same = length-moved s i is in omega arith))
+        (good .agree .known j (low, let same = length-moved s i is in omega arith))
 
     agree-after : Agree start (length (m .stages lock)) (heard h e) (moved s i is) (with-kept r i new) now
     agree-after =
         record {
-          size = length-set (r .stations) (i - 1) new ∙ G .agree .size;
+          size = length-set (r .stations) (i - 1) new ∙ good .agree .size;
           fit = C .fit;
           known = λ j (low, high). elim (cases-eq j i) [ inl d ↦ subst Known-after (sym d) known-here | inr ne ↦ known-there j ne low high ];
           middle = C .middle;
           balance =
-              (let before = G .agree .balance in
+              (let before = good .agree .balance in
               let pays = C .pays in
               let t = tally-moved tries s i was is (C .here) in
               let w = tally-moved works s i was is (C .here) in

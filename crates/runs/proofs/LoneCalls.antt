@@ -2,7 +2,7 @@
 use mathlib.Core.Path.{_≡_, refl, sym, _∙_, ap, subst}
 use mathlib.Core.Logic.{inl, inr}
 use mathlib.Core.List.{List, [], _∷_}
-use Prim.Native.Nat.{ℕ, _+_, _-_, _≤_}
+use Prim.Native.Nat.{ℕ, suc, _+_, _-_, _≤_}
 use native.Mathlib.Omega.{arith}
 use lib.ListN.{length}
 use Rattle.std.specs.declared.option.Option.{Option}
@@ -64,12 +64,12 @@ module _ {L : Type 0} (m : Meaning L) (laws : Lawful m) (lock : L) (r : Rack L) 
 module _ {L : Type 0} (m : Meaning L) (laws : Lawful m) (lock quiet : L) (i : ℕ) (book : Board) (job : Job) {start n : ℕ} (C : Course start n i book job (whole i book job)) (most : i ≤ 16) where
   recounted : {r : Rack L} {served wanted served′ wanted′ : ℕ} → served′ ≡ served → wanted′ ≡ wanted →
       Lonely m lock quiet i book job r served wanted → Lonely m lock quiet i book job r served′ wanted′
-  recounted {r} {served} {wanted} {served′} {wanted′} e f Y =
-      subst (λ z. Lonely m lock quiet i book job r z wanted′) (sym e) (subst (λ z. Lonely m lock quiet i book job r served z) (sym f) Y)
+  recounted {r} {served} {wanted} {served′} {wanted′} e f lonely =
+      subst (λ z. Lonely m lock quiet i book job r z wanted′) (sym e) (subst (λ z. Lonely m lock quiet i book job r served z) (sym f) lonely)
 
-  module _ (r : Rack L) (served wanted : ℕ) (Y : Lonely m lock quiet i book job r served wanted) where
+  module _ (r : Rack L) (served wanted : ℕ) (lonely : Lonely m lock quiet i book job r served wanted) where
     unaltered : Lonely m lock quiet i book job r (served + 0) (wanted + 0)
-    unaltered = recounted (omega arith) (omega arith) Y
+    unaltered = recounted (omega arith) (omega arith) lonely
 
     -- after a slot of station j, found at a stage
     abbrev Slot-of : ℕ → Option Stage → Type 0
@@ -78,30 +78,34 @@ module _ {L : Type 0} (m : Meaning L) (laws : Lawful m) (lock quiet : L) (i : �
     found-at : (x : Stage) → asked (m .stages (r .lock)) i ≡ Some x → Slot-of i (Some x) → Slot-of i (stage-of m r i)
     found-at x here = subst (Slot-of i) (sym (lock-stage m r i (asked-station (m .stages (r .lock)) i x here .0) most ∙ here))
 
+    own : mine i i ≡ 1
+    own = cond-at i 1 0
+
+    -- a slot that is served is asked for too
+    both-counted : {r′ : Rack L} → Lonely m lock quiet i book job r′ (suc served) (suc wanted) → Lonely m lock quiet i book job r′ (served + mine i i) (wanted + mine i i)
+    both-counted = let one = own in recounted (omega arith) (omega arith)
+
     own-slot : Phase m lock quiet i book job r served wanted → Slot-of i (stage-of m r i)
-    own-slot (tries P) =
-        let one : mine i i ≡ 1 = cond-at i 1 0 in
-        found-at Trying (P .here) (recounted (omega arith) (omega arith) (try-turn m laws lock quiet i book job C r served wanted Y most P))
-    own-slot (works P) =
-        let one : mine i i ≡ 1 = cond-at i 1 0 in
-        found-at Inside (P .here) (recounted (omega arith) (omega arith) (work-slot m laws lock quiet i book job C r served wanted Y most P (to-do r i) refl))
-    own-slot (leaves P) =
-        let one : mine i i ≡ 1 = cond-at i 1 0 in
-        found-at Leaving (P .here) (recounted (omega arith) (omega arith) (leave-turn m laws lock quiet i book job C r served wanted Y most P))
+    own-slot (tries P) = found-at Trying (P .here) (both-counted (try-turn m laws lock quiet i book job C r served wanted lonely most P))
+    own-slot (works P) = found-at Inside (P .here) (both-counted (work-slot m laws lock quiet i book job C r served wanted lonely most P (to-do r i) refl))
+    own-slot (leaves P) = found-at Leaving (P .here) (both-counted (leave-turn m laws lock quiet i book job C r served wanted lonely most P))
     own-slot (rests P) =
-        let one : mine i i ≡ 1 = cond-at i 1 0 in
-        found-at Rest (P .here) (recounted (omega arith) (omega arith) (rest-slot m laws lock quiet i book job C r served wanted Y most P))
+        let one = own in
+        found-at Rest (P .here) (recounted (omega arith) (omega arith) (rest-slot m laws lock quiet i book job C r served wanted lonely most P))
 
     -- another station is at rest, or there is none
     only-resting : (j : ℕ) → (j ≡ i → ⊥) → (x : Stage) → stage-of m r j ≡ Some x → x ≡ Rest
     only-resting j ne x e =
         let there = known-stage m r j x e .0 in
-        let rest = Y .others j (asked-station (m .stages (r .lock)) j x there) ne in
+        let rest = lonely .others j (asked-station (m .stages (r .lock)) j x there) ne in
         cc
 
+    unserved : (j : ℕ) → (j ≡ i → ⊥) → Lonely m lock quiet i book job r (served + 0) (wanted + mine i j)
+    unserved j ne = let none : mine i j ≡ 0 = cond-off j i 1 0 ne in recounted (omega arith) (omega arith) lonely
+
     other-slot : (j : ℕ) → (j ≡ i → ⊥) → (x : Option Stage) → stage-of m r j ≡ x → Slot-of j x
-    other-slot j ne None e = let none : mine i j ≡ 0 = cond-off j i 1 0 ne in recounted (omega arith) (omega arith) Y
-    other-slot j ne (Some Rest) e = let none : mine i j ≡ 0 = cond-off j i 1 0 ne in recounted (omega arith) (omega arith) Y
+    other-slot j ne None e = unserved j ne
+    other-slot j ne (Some Rest) e = unserved j ne
     other-slot j ne (Some Trying) e = let c = only-resting j ne Trying e in never (cc)
     other-slot j ne (Some Inside) e = let c = only-resting j ne Inside e in never (cc)
     other-slot j ne (Some Leaving) e = let c = only-resting j ne Leaving e in never (cc)
@@ -114,7 +118,7 @@ module _ {L : Type 0} (m : Meaning L) (laws : Lawful m) (lock quiet : L) (i : �
     lone-call : (c : Call) → acceptance (event m r c) ≡ 0 → Lonely m lock quiet i book job (after m r c) (served + serving i (event m r c)) (wanted + asking i (event m r c))
     lone-call (Order j other) e = refused-order j other (ordered-rack m r j other) (order-answer m r j other) e
     lone-call (Slot j) e = elim (cases-eq j i) [
-      | inl d ↦ subst (λ z. Slot-of z (stage-of m r z)) (sym d) (own-slot (Y .phase))
+      | inl d ↦ subst (λ z. Slot-of z (stage-of m r z)) (sym d) (own-slot (lonely .phase))
       | inr ne ↦ other-slot j ne (stage-of m r j) refl
     ]
     lone-call (Look j) e = unaltered
@@ -123,7 +127,7 @@ module _ {L : Type 0} (m : Meaning L) (laws : Lawful m) (lock quiet : L) (i : �
   pub lone-calls : (cs : List Call) (r : Rack L) (served wanted : ℕ) → Lonely m lock quiet i book job r served wanted → accepted (events m r cs) ≡ 0 →
       {served′ wanted′ : ℕ} → served′ ≡ served + total (serving i) (events m r cs) → wanted′ ≡ wanted + total (asking i) (events m r cs) →
       Lonely m lock quiet i book job (ran m r cs) served′ wanted′
-  lone-calls [] r served wanted Y none e f = recounted (omega arith) (omega arith) Y
-  lone-calls (c ∷ cs) r served wanted Y none e f =
-      let Z = lone-call r served wanted Y c (omega arith) in
-      lone-calls cs (after m r c) (served + serving i (event m r c)) (wanted + asking i (event m r c)) Z (omega arith) (omega arith) (omega arith)
+  lone-calls [] r served wanted lonely none e f = recounted (omega arith) (omega arith) lonely
+  lone-calls (c ∷ cs) r served wanted lonely none e f =
+      let next = lone-call r served wanted lonely c (omega arith) in
+      lone-calls cs (after m r c) (served + serving i (event m r c)) (wanted + asking i (event m r c)) next (omega arith) (omega arith) (omega arith)

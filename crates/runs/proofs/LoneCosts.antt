@@ -31,22 +31,22 @@ module _ {L : Type 0} (m : Meaning L) (laws : Lawful m) (lock quiet : L) (i : �
   phase-cost (rests P) = let a = P .got-in .few in let b = P .spent in let c = P .got-out .few in omega arith
 
   pub cost-bounded : Lonely m lock quiet i book job r served wanted → served ≤ m .lone lock + m .leave lock + acc
-  cost-bounded Y = phase-cost (Y .phase)
+  cost-bounded lonely = phase-cost (lonely .phase)
 
   -- a station that tries or leaves has a turn to come, and one that works an access
   phase-enough : Lonely m lock quiet i book job r served wanted → Phase m lock quiet i book job r served wanted →
       m .lone lock + m .leave lock + acc ≤ wanted → asked (m .stages (r .lock)) i ≡ Some Rest
-  phase-enough Y (tries P) h =
-      let falls = laws .lone-falls (r .lock) i (Y .fixed .sound) (P .here) (Y .others) in
+  phase-enough lonely (tries P) h =
+      let falls = laws .lone-falls (r .lock) i (lonely .fixed .sound) (P .here) (lonely .others) in
       let a = P .way .few in let b = P .all-served in absurd (omega arith)
-  phase-enough Y (works P) h = let a = P .got-in .few in let b = P .spent in let c = P .not-all in let d = P .all-served in absurd (omega arith)
-  phase-enough Y (leaves P) h =
-      let falls = laws .leave-falls (r .lock) i (Y .fixed .sound) (P .here) in
+  phase-enough lonely (works P) h = let a = P .got-in .few in let b = P .spent in let c = P .not-all in let d = P .all-served in absurd (omega arith)
+  phase-enough lonely (leaves P) h =
+      let falls = laws .leave-falls (r .lock) i (lonely .fixed .sound) (P .here) in
       let a = P .got-in .few in let b = P .spent in let c = P .way .few in let d = P .all-served in absurd (omega arith)
-  phase-enough Y (rests P) h = P .here
+  phase-enough lonely (rests P) h = P .here
 
   pub cost-suffices : Lonely m lock quiet i book job r served wanted → m .lone lock + m .leave lock + acc ≤ wanted → asked (m .stages (r .lock)) i ≡ Some Rest
-  cost-suffices Y = phase-enough Y (Y .phase)
+  cost-suffices lonely = phase-enough lonely (lonely .phase)
 
   -- a lock with an exact lone cost
   module _ (F : Fixed m lock quiet) (rest : All-rest (m .stages quiet)) (st : stages.Station (m .stages quiet) i) (enter leave : ℕ → ℕ) (E : Exactly m enter leave) where
@@ -99,4 +99,4 @@ module _ {L : Type 0} (m : Meaning L) (laws : Lawful m) (lock quiet : L) (i : �
         (ap told.rests same ∙ sym (le-leb (enter n + leave n + acc) wanted (omega arith)), omega arith)
 
     pub cost-exact : Lonely m lock quiet i book job r served wanted → (x : Stage) → asked (m .stages (r .lock)) i ≡ Some x → Exact x
-    cost-exact Y = phase-exact (Y .phase)
+    cost-exact lonely = phase-exact (lonely .phase)

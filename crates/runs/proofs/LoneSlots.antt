@@ -31,7 +31,7 @@ use Rattle.runs.proofs.Ways.{sets-out, goes-further, arrives}
 use Rattle.runs.proofs.Phases.{Tries, Works, Leaves, Rests, Phase, tries, works, leaves, rests, Lonely}
 
 module _ {L : Type 0} (m : Meaning L) (laws : Lawful m) (lock quiet : L) (i : ℕ) (book : Board) (job : Job) {start n : ℕ} (C : Course start n i book job (whole i book job)) where
-  module _ (r : Rack L) (served wanted : ℕ) (Y : Lonely m lock quiet i book job r served wanted) (most : i ≤ 16) where
+  module _ (r : Rack L) (served wanted : ℕ) (lonely : Lonely m lock quiet i book job r served wanted) (most : i ≤ 16) where
     abbrev s : List Stage
     s = m .stages (r .lock)
 
@@ -44,26 +44,26 @@ module _ {L : Type 0} (m : Meaning L) (laws : Lawful m) (lock quiet : L) (i : �
         Lonely m lock quiet i book job (rack-of l (with-kept r i new) now) (suc served) (suc wanted)
     moves-on is l new now K moves phase =
         record {
-          fixed = fixed-more m lock (Y .fixed) K i is moves;
-          size = length-set (r .stations) (i - 1) new ∙ Y .size;
-          others = others-after s i is moves (Y .others);
+          fixed = fixed-more m lock (lonely .fixed) K i is moves;
+          size = length-set (r .stations) (i - 1) new ∙ lonely .size;
+          others = others-after s i is moves (lonely .others);
           phase = phase;
         }
 
     turns-to : (is : Stage) → m .stages then ≡ moved s i is → Phase m lock quiet i book job (turned-rack m r i) (suc served) (suc wanted) →
         Lonely m lock quiet i book job (turned-rack m r i) (suc served) (suc wanted)
-    turns-to is moves = moves-on is then _ (r .board) (laws .turned-kept (r .lock) i (Y .fixed .sound)) moves
+    turns-to is moves = moves-on is then _ (r .board) (laws .turned-kept (r .lock) i (lonely .fixed .sound)) moves
 
     -- the part that is kept, once it is written
     task-after : (was : Stage) → asked s i ≡ Some was → (new : Station) → getD (with-kept r i new) (i - 1) idle .task ≡ new .task
-    task-after was here new = ap (λ z. z .task) (kept-at (r .stations) i new (asked-station s i was here .0) (Y .size) most)
+    task-after was here new = ap (λ z. z .task) (kept-at (r .stations) i new (asked-station s i was here .0) (lonely .size) most)
 
     pub try-turn : Tries m lock quiet i book job r served wanted → Lonely m lock quiet i book job (turned-rack m r i) (suc served) (suc wanted)
     try-turn P =
-        let falls = laws .lone-falls (r .lock) i (Y .fixed .sound) (P .here) (Y .others) in
+        let falls = laws .lone-falls (r .lock) i (lonely .fixed .sound) (P .here) (lonely .others) in
         let same = P .all-served in
         let task : kept (turned-rack m r i) i .task ≡ begun job = task-after Trying (P .here) _ ∙ P .task in
-        elim (trying-turn m laws (r .lock) i (Y .fixed .sound) (P .here)) [
+        elim (trying-turn m laws (r .lock) i (lonely .fixed .sound) (P .here)) [
           | inl moves ↦
               (let here = stage-after s i Trying moves Trying (P .here) in
               turns-to Trying moves (tries record {
@@ -89,10 +89,10 @@ module _ {L : Type 0} (m : Meaning L) (laws : Lawful m) (lock quiet : L) (i : �
 
     pub leave-turn : Leaves m lock quiet i book job r served wanted → Lonely m lock quiet i book job (turned-rack m r i) (suc served) (suc wanted)
     leave-turn P =
-        let falls = laws .leave-falls (r .lock) i (Y .fixed .sound) (P .here) in
+        let falls = laws .leave-falls (r .lock) i (lonely .fixed .sound) (P .here) in
         let same = P .all-served in
         let spent = P .spent in
-        elim (leaving-turn m laws (r .lock) i (Y .fixed .sound) (P .here)) [
+        elim (leaving-turn m laws (r .lock) i (lonely .fixed .sound) (P .here)) [
           | inl moves ↦
               (let here = stage-after s i Leaving moves Leaving (P .here) in
               turns-to Leaving moves (leaves record {
@@ -128,9 +128,9 @@ module _ {L : Type 0} (m : Meaning L) (laws : Lawful m) (lock quiet : L) (i : �
         let spent = P .spent in
         let same = P .all-served in
         record {
-          fixed = Y .fixed;
-          size = length-set (r .stations) (i - 1) _ ∙ Y .size;
-          others = Y .others;
+          fixed = lonely .fixed;
+          size = length-set (r .stations) (i - 1) _ ∙ lonely .size;
+          others = lonely .others;
           phase = works record {
             here = P .here;
             turns-in = P .turns-in;
@@ -144,11 +144,11 @@ module _ {L : Type 0} (m : Meaning L) (laws : Lawful m) (lock quiet : L) (i : �
         }
     work-slot P (Finished v) e =
         let (last, _, _) = ends-here C (P .made) (kept r i .task) (r .board) (P .not-all) (P .walked) v e in
-        let K = laws .ended-kept (r .lock) i (Y .fixed .sound) in
-        let moves = laws .ends (r .lock) i (Y .fixed .sound) (ap inside (P .here)) in
+        let K = laws .ended-kept (r .lock) i (lonely .fixed .sound) in
+        let moves = laws .ends (r .lock) i (lonely .fixed .sound) (ap inside (P .here)) in
         let here = stage-after s i Leaving moves Inside (P .here) in
         let bound = laws .leave-bound (m .ended (r .lock) i) i (K .sound) here in
-        let leave-is = (K .leave ∙ Y .fixed .leave) in
+        let leave-is = (K .leave ∙ lonely .fixed .leave) in
         let spent = P .spent in
         let same = P .all-served in
         moves-on Leaving (m .ended (r .lock) i) _ _ K moves (leaves record {
@@ -158,7 +158,7 @@ module _ {L : Type 0} (m : Meaning L) (laws : Lawful m) (lock quiet : L) (i : �
           spent = omega arith;
           got-in = P .got-in;
           full = r .lock;
-          was-full = record { fixed = Y .fixed; inside = P .here };
+          was-full = record { fixed = lonely .fixed; inside = P .here };
           way = sets-out m i Leaving Rest (m .leave lock) (m .ended (r .lock) i) (λ c. never (cc)) (omega arith) here;
           all-served = omega arith;
         })
@@ -168,9 +168,9 @@ module _ {L : Type 0} (m : Meaning L) (laws : Lawful m) (lock quiet : L) (i : �
     rest-slot P =
         let fewer = P .not-more in
         record {
-          fixed = Y .fixed;
-          size = Y .size;
-          others = Y .others;
+          fixed = lonely .fixed;
+          size = lonely .size;
+          others = lonely .others;
           phase = rests record {
             here = P .here;
             turns-in = P .turns-in;

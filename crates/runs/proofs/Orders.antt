@@ -29,16 +29,16 @@ module _ (h : Heard) (i : ℕ) (job : Job) where
         last = refl;
       }
 
-module _ {L : Type 0} (m : Meaning L) (laws : Lawful m) (lock : L) (start : ℕ) (h : Heard) (r : Rack L) (G : Good m lock start h r) (i : ℕ) (most : i ≤ 16) where
+module _ {L : Type 0} (m : Meaning L) (laws : Lawful m) (lock : L) (start : ℕ) (h : Heard) (r : Rack L) (good : Good m lock start h r) (i : ℕ) (most : i ≤ 16) where
   pub order-accepted : (job : Job) → asked (m .stages (r .lock)) i ≡ Some Rest → fault job ≡ None → Good m lock start (heard h (Ordered i job (Ok tt))) (ordered-rack m r i job)
   order-accepted job here proper =
-      let moves = laws .begins (r .lock) i (G .fixed .sound) (ap resting here) in
-      let last-is = G .agree .known i (asked-station (m .stages (r .lock)) i Rest here) .last-is in
-      altered m lock start h r i (Ordered i job (Ok tt)) G
+      let moves = laws .begins (r .lock) i (good .fixed .sound) (ap resting here) in
+      let last-is = good .agree .known i (asked-station (m .stages (r .lock)) i Rest here) .last-is in
+      altered m lock start h r i (Ordered i job (Ok tt)) good
       record {
         here = here;
         most = most;
-        fixed = fixed-more m lock (G .fixed) (laws .begun-kept (r .lock) i (G .fixed .sound)) i Trying moves;
+        fixed = fixed-more m lock (good .fixed) (laws .begun-kept (r .lock) i (good .fixed .sound)) i Trying moves;
         moves = moves;
         others = order-others h i job;
         known = record {
@@ -47,7 +47,7 @@ module _ {L : Type 0} (m : Meaning L) (laws : Lawful m) (lock : L) (start : ℕ)
           last-is = last-is;
           waiting = λ t. record { job = job; is-noted = cond-at i (Some job) (h .ledger .noted i); proper = faultless job proper; at-start = refl };
         };
-        fit = G .agree .fit;
-        middle = middle-aside (m .stages (r .lock)) i Rest Trying here _ (λ c. never (cc)) (λ c. never (cc)) refl (λ j ne. cond-off j i _ _ ne) (G .agree .middle);
+        fit = good .agree .fit;
+        middle = middle-aside (m .stages (r .lock)) i Rest Trying here _ (λ c. never (cc)) (λ c. never (cc)) refl (λ j ne. cond-off j i _ _ ne) (good .agree .middle);
         pays = refl;
       }

@@ -84,25 +84,25 @@ module _ {L : Type 0} (m : Meaning L) (laws : Lawful m) (lock : L) (start : ℕ)
 
 module _ {L : Type 0} (m : Meaning L) (laws : Lawful m) (lock : L) (start : ℕ) (ready : Ready m lock) (low : start ≤ ceiling) where
   -- a lone order and all that came after it
-  module _ (cs : List Call) (before : List Event) (i : ℕ) (job : Job) (after : List Event) (A : Lone (length (m .stages lock)) (events m (fresh-rack lock start) cs) before i job after []) where
+  module _ (cs : List Call) (before : List Event) (i : ℕ) (job : Job) (after : List Event) (lone : Lone (length (m .stages lock)) (events m (fresh-rack lock start) cs) before i job after []) where
     abbrev r : Rack L
     r = ran m (fresh-rack lock start) cs
 
     whole-tale : Tale m lock (ledger start before .board) i job after r
-    whole-tale = tale m laws lock start ready low cs before i job after A
+    whole-tale = tale m laws lock start ready low cs before i job after lone
 
     told-now : asked (m .stages (r .lock)) i ≡ Some (told (up-to before i job after) i)
     told-now =
         let T = whole-tale in
         let (least, high) = T .station in
         let number = T .fixed .number in
-        moment m laws lock start ready low cs .stage i least (omega arith) ∙ ap (λ z. Some (told z i)) (A .split ∙ append-nil (up-to before i job after))
+        moment m laws lock start ready low cs .stage i least (omega arith) ∙ ap (λ z. Some (told z i)) (lone .split ∙ append-nil (up-to before i job after))
 
     bounded-cost : Bounded-cost m lock start before i job after
     bounded-cost =
         let T = whole-tale in
         record {
-          count-is = since-order i before job after (A .no-other);
+          count-is = since-order i before job after (lone .no-other);
           at-most = cost-bounded m laws lock (T .quiet) i _ job r _ _ (T .lonely);
           suffices = λ enough. (let rest = cost-suffices m laws lock (T .quiet) i _ job r _ _ (T .lonely) enough in let now = told-now in cc);
         }
@@ -114,12 +114,12 @@ module _ {L : Type 0} (m : Meaning L) (laws : Lawful m) (lock : L) (start : ℕ)
         record { rests-then = at-rest; served-till-then = all }
 
   -- the same order, with what came later left out
-  module _ (cs : List Call) (before : List Event) (i : ℕ) (job : Job) (after later : List Event) (A : Lone (length (m .stages lock)) (events m (fresh-rack lock start) cs) before i job after later) where
+  module _ (cs : List Call) (before : List Event) (i : ℕ) (job : Job) (after later : List Event) (lone : Lone (length (m .stages lock)) (events m (fresh-rack lock start) cs) before i job after later) where
     till : Parts m (fresh-rack lock start) cs (up-to before i job after) later
-    till = parts m (up-to before i job after) later cs (fresh-rack lock start) (A .split)
+    till = parts m (up-to before i job after) later cs (fresh-rack lock start) (lone .split)
 
     lone-till : Lone (length (m .stages lock)) (events m (fresh-rack lock start) (till .first)) before i job after []
-    lone-till = record { split = till .first-events ∙ sym (append-nil (up-to before i job after)); others-rest = A .others-rest; no-other = A .no-other }
+    lone-till = record { split = till .first-events ∙ sym (append-nil (up-to before i job after)); others-rest = lone .others-rest; no-other = lone .no-other }
 
   promise : (cs : List Call) → Promise m lock start (events m (fresh-rack lock start) cs) (ran m (fresh-rack lock start) cs)
   promise cs =
@@ -132,9 +132,9 @@ module _ {L : Type 0} (m : Meaning L) (laws : Lawful m) (lock : L) (start : ℕ)
         books = books-agree m laws lock start es r M;
         balance = balanced m laws lock start es r M;
         limits = limits m laws lock start es r M;
-        lone-bound = λ before i job after later A. bounded-cost (till cs before i job after later A .first) before i job after (lone-till cs before i job after later A);
-        lone-exact = λ enter leave E before i job after later A.
-            exact-cost (till cs before i job after later A .first) before i job after (lone-till cs before i job after later A) enter leave E;
+        lone-bound = λ before i job after later lone. bounded-cost (till cs before i job after later lone .first) before i job after (lone-till cs before i job after later lone);
+        lone-exact = λ enter leave E before i job after later lone.
+            exact-cost (till cs before i job after later lone .first) before i job after (lone-till cs before i job after later lone) enter leave E;
       }
 
   pub throughout : (calls : List Call) → Throughout m lock start calls

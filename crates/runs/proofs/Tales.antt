@@ -52,36 +52,36 @@ pub record Tale {L : Type 0} (m : Meaning L) (lock : L) (book : Board) (i : ℕ)
   pub lonely : Lonely m lock quiet i book job r (total (serving i) after) (total (asking i) after)
 
 -- an order that a resting station of a rack is given while all others rest
-module _ {L : Type 0} (m : Meaning L) (laws : Lawful m) (lock : L) (start : ℕ) (before : List Event) (r : Rack L) (M : Moment m lock start before r) where
+module _ {L : Type 0} (m : Meaning L) (laws : Lawful m) (lock : L) (start : ℕ) (before : List Event) (r : Rack L) (found : Moment m lock start before r) where
   module _ (i : ℕ) (here : asked (m .stages (r .lock)) i ≡ Some Rest) (others : Others-told-rest (length (m .stages lock)) before i) where
     all-rest : All-rest (m .stages (r .lock))
     all-rest j (low, high) = elim (cases-eq j i) [
       | inl e ↦ subst (λ z. asked (m .stages (r .lock)) z ≡ Some Rest) (sym e) here
       | inr ne ↦
-          (let number = M .fixed .number in
+          (let number = found .fixed .number in
           let within : j ≤ length (m .stages lock) = omega arith in
-          M .stage j low within ∙ ap Some (others j low within ne))
+          found .stage j low within ∙ ap Some (others j low within ne))
     ]
 
     same-book : r .board ≡ ledger start before .board
-    same-book = book-is (M .middle) (λ j in-j. let rest = all-rest j (asked-station (m .stages (r .lock)) j Inside in-j) in never (cc))
+    same-book = book-is (found .middle) (λ j in-j. let rest = all-rest j (asked-station (m .stages (r .lock)) j Inside in-j) in never (cc))
 
     tale-from : (job : Job) → Course start (length (m .stages lock)) i (ledger start before .board) job (whole i (ledger start before .board) job) →
         (cs : List Call) → accepted (events m (ordered-rack m r i job) cs) ≡ 0 →
         Tale m lock (ledger start before .board) i job (events m (ordered-rack m r i job) cs) (ran m (ordered-rack m r i job) cs)
     tale-from job C cs none =
         let st = asked-station (m .stages (r .lock)) i Rest here in
-        let most = laws .most (r .lock) (M .fixed .sound) in
+        let most = laws .most (r .lock) (found .fixed .sound) in
         let book : Board = ledger start before .board in
-        let Y : Lonely m lock (r .lock) i book job (ordered-rack m r i job) 0 0 =
-        subst (λ z. Lonely m lock (r .lock) i z job (ordered-rack m r i job) 0 0) same-book (lone-order m laws lock r (M .fixed) i job all-rest st (M .size))
+        let at-first : Lonely m lock (r .lock) i book job (ordered-rack m r i job) 0 0 =
+        subst (λ z. Lonely m lock (r .lock) i z job (ordered-rack m r i job) 0 0) same-book (lone-order m laws lock r (found .fixed) i job all-rest st (found .size))
         in
         record {
           quiet = r .lock;
-          fixed = M .fixed;
+          fixed = found .fixed;
           at-rest = all-rest;
           station = st;
-          lonely = lone-calls m laws lock (r .lock) i book job C (omega arith) cs (ordered-rack m r i job) 0 0 Y none (omega arith) (omega arith);
+          lonely = lone-calls m laws lock (r .lock) i book job C (omega arith) cs (ordered-rack m r i job) 0 0 at-first none (omega arith) (omega arith);
         }
 
 module _ {L : Type 0} (m : Meaning L) (laws : Lawful m) (lock : L) (start : ℕ) (ready : Ready m lock) (low : start ≤ ceiling) (cs : List Call) where
@@ -91,15 +91,15 @@ module _ {L : Type 0} (m : Meaning L) (laws : Lawful m) (lock : L) (start : ℕ)
   -- a lone order and all that came after it
   pub tale : (before : List Event) (i : ℕ) (job : Job) (after : List Event) → Lone (length (m .stages lock)) (events m first cs) before i job after [] →
       Tale m lock (ledger start before .board) i job after (ran m first cs)
-  tale before i job after A =
-      let P = parts m before (Ordered i job (Ok tt) ∷ after) cs first (A .split ∙ append-nil (up-to before i job after)) in
-      let r : Rack L = ran m first (P .first) in
-      let M : Moment m lock start before r = subst (λ z. Moment m lock start z r) (P .first-events) (moment m laws lock start ready low (P .first)) in
-      let T = taken m r i job (P .second) after (P .second-events) in
-      let (here, least, most) = known-stage m r i Rest (T .rested) in
+  tale before i job after lone =
+      let halves = parts m before (Ordered i job (Ok tt) ∷ after) cs first (lone .split ∙ append-nil (up-to before i job after)) in
+      let r : Rack L = ran m first (halves .first) in
+      let found : Moment m lock start before r = subst (λ z. Moment m lock start z r) (halves .first-events) (moment m laws lock start ready low (halves .first)) in
+      let order = taken m r i job (halves .second) after (halves .second-events) in
+      let (here, least, most) = known-stage m r i Rest (order .rested) in
       let (_, high) = asked-station (m .stages (r .lock)) i Rest here in
-      let number = M .fixed .number in
-      let C = course start (length (m .stages lock)) i (ledger start before .board) job (M .fit) (omega arith) (faultless job (T .no-fault)) in
-      let Z = tale-from m laws lock start before r M i here (A .others-rest) job C (T .rest) (ap accepted (T .rest-events) ∙ A .no-other) in
-      subst (Tale m lock (ledger start before .board) i job after) (sym (P .both ∙ T .ends))
-      (subst (λ z. Tale m lock (ledger start before .board) i job z (ran m (ordered-rack m r i job) (T .rest))) (T .rest-events) Z)
+      let number = found .fixed .number in
+      let C = course start (length (m .stages lock)) i (ledger start before .board) job (found .fit) (omega arith) (faultless job (order .no-fault)) in
+      let followed = tale-from m laws lock start before r found i here (lone .others-rest) job C (order .rest) (ap accepted (order .rest-events) ∙ lone .no-other) in
+      subst (Tale m lock (ledger start before .board) i job after) (sym (halves .both ∙ order .ends))
+      (subst (λ z. Tale m lock (ledger start before .board) i job z (ran m (ordered-rack m r i job) (order .rest))) (order .rest-events) followed)

@@ -30,7 +30,7 @@ use Rattle.runs.proofs.Middles.{Exclusive, book-is, middle-aside, nobody-befor
 use Rattle.runs.proofs.Changes.{altered}
 use Rattle.runs.proofs.Slots.{slot-others, slot-known}
 
-module _ {L : Type 0} (m : Meaning L) (laws : Lawful m) (lock : L) (start : ℕ) (h : Heard) (r : Rack L) (G : Good m lock start h r) (i : ℕ) (most : i ≤ 16) where
+module _ {L : Type 0} (m : Meaning L) (laws : Lawful m) (lock : L) (start : ℕ) (h : Heard) (r : Rack L) (good : Good m lock start h r) (i : ℕ) (most : i ≤ 16) where
   abbrev s : List Stage
   s = m .stages (r .lock)
 
@@ -42,7 +42,7 @@ module _ {L : Type 0} (m : Meaning L) (laws : Lawful m) (lock : L) (start : ℕ)
 
   module _ (was : Stage) (here : asked s i ≡ Some was) where
     known : Known h i (asked s i) (kept r i)
-    known = G .agree .known i (asked-station s i was here)
+    known = good .agree .known i (asked-station s i was here)
 
     -- a turn that is answered by a, which leaves the ledger as it is
     turn : (a : Served) → m .stages then ≡ moved s i (tells a) → served g i a ≡ g → (tells a ≡ Trying → was ≡ Trying) →
@@ -50,22 +50,22 @@ module _ {L : Type 0} (m : Meaning L) (laws : Lawful m) (lock : L) (start : ℕ)
         Middle (moved s i (tells a)) (turned-rack m r i .stations) (r .board) g → Good m lock start (heard h (Slotted i (Ok a))) (turned-rack m r i)
     turn a moves same still pays middle =
         let stage-is = known .stage-is in
-        altered m lock start h r i (Slotted i (Ok a)) G
+        altered m lock start h r i (Slotted i (Ok a)) good
         record {
           here = here;
           most = most;
-          fixed = fixed-more m lock (G .fixed) (laws .turned-kept (r .lock) i (G .fixed .sound)) i (tells a) moves;
+          fixed = fixed-more m lock (good .fixed) (laws .turned-kept (r .lock) i (good .fixed .sound)) i (tells a) moves;
           moves = moves;
           others = slot-others h i a;
           known = slot-known h i a known refl (known .last-is ∙ ap (λ z. z .last i) (sym same))
               (λ t. subst (λ z. Waiting (z .noted i) (kept r i .task)) (sym same) (known .waiting (let w = still t in cc)));
-          fit = subst (λ z. Fit start (length (m .stages lock)) (z .board)) (sym same) (G .agree .fit);
+          fit = subst (λ z. Fit start (length (m .stages lock)) (z .board)) (sym same) (good .agree .fit);
           middle = subst (Middle (moved s i (tells a)) (turned-rack m r i .stations) (r .board)) (sym same) middle;
           pays = pays;
         }
 
     aside : (is : Stage) → (was ≡ Inside → ⊥) → (is ≡ Inside → ⊥) → Middle (moved s i is) (turned-rack m r i .stations) (r .board) g
-    aside is out out′ = middle-aside s i was is here _ out out′ refl (λ j ne. refl) (G .agree .middle)
+    aside is out out′ = middle-aside s i was is here _ out out′ refl (λ j ne. refl) (good .agree .middle)
 
   module _ (here : asked s i ≡ Some Trying) where
     pub still-trying : m .stages then ≡ moved s i Trying → Good m lock start (heard h (Slotted i (Ok StillTrying))) (turned-rack m r i)
@@ -74,16 +74,16 @@ module _ {L : Type 0} (m : Meaning L) (laws : Lawful m) (lock : L) (start : ℕ)
     -- nobody was inside before, so the waiting job starts on the ledger's board
     starts : m .stages then ≡ moved s i Inside → Midway i (g .board) (g .noted i) (kept (turned-rack m r i) i .task) (r .board)
     starts e =
-        let sound = laws .turned-kept (r .lock) i (G .fixed .sound) .sound in
+        let sound = laws .turned-kept (r .lock) i (good .fixed .sound) .sound in
         let one : Exclusive (moved s i Inside) = subst Exclusive e (λ j k in-j in-k. laws .exclusive then j k sound in-j in-k) in
-        let same = book-is (G .agree .middle) (nobody-before s i Trying Inside here (λ c. never (cc)) one) in
+        let same = book-is (good .agree .middle) (nobody-before s i Trying Inside here (λ c. never (cc)) one) in
         let (least, high) = asked-station s i Trying here in
         let K = known Trying here in
         let stage-is = K .stage-is in
         let W = K .waiting (cc) in
-        let number = G .fixed .number in
-        let C = course start (length (m .stages lock)) i (g .board) (W .job) (G .agree .fit) (omega arith) (W .proper) in
-        let task-is = ap (λ z. z .task) (kept-at (r .stations) i _ least (G .agree .size) most) ∙ W .at-start in
+        let number = good .fixed .number in
+        let C = course start (length (m .stages lock)) i (g .board) (W .job) (good .agree .fit) (omega arith) (W .proper) in
+        let task-is = ap (λ z. z .task) (kept-at (r .stations) i _ least (good .agree .size) most) ∙ W .at-start in
         record {
           job = W .job;
           is-noted = W .is-noted;

@@ -34,7 +34,7 @@ use Rattle.runs.proofs.Middles.{Exclusive, midway-of, nobody-after}
 use Rattle.runs.proofs.Changes.{altered}
 use Rattle.runs.proofs.Slots.{slot-others, slot-known}
 
-module _ {L : Type 0} (m : Meaning L) (laws : Lawful m) (lock : L) (start : ℕ) (h : Heard) (r : Rack L) (G : Good m lock start h r) where
+module _ {L : Type 0} (m : Meaning L) (laws : Lawful m) (lock : L) (start : ℕ) (h : Heard) (r : Rack L) (good : Good m lock start h r) where
   module _ (i : ℕ) (most : i ≤ 16) (here : asked (m .stages (r .lock)) i ≡ Some Inside) where
     abbrev s : List Stage
     s = m .stages (r .lock)
@@ -46,27 +46,27 @@ module _ {L : Type 0} (m : Meaning L) (laws : Lawful m) (lock : L) (start : ℕ)
     now = board-after i (r .board) (kept r i .task)
 
     one : Exclusive s
-    one j k in-j in-k = laws .exclusive (r .lock) j k (G .fixed .sound) in-j in-k
+    one j k in-j in-k = laws .exclusive (r .lock) j k (good .fixed .sound) in-j in-k
 
     known : Known h i (asked s i) (kept r i)
-    known = G .agree .known i (asked-station s i Inside here)
+    known = good .agree .known i (asked-station s i Inside here)
 
     -- the job as far as it is done, and its course from start to end
     midway : Midway i (g .board) (g .noted i) (kept r i .task) (r .board)
-    midway = midway-of (G .agree .middle) one i here
+    midway = midway-of (good .agree .middle) one i here
 
     runs : Course start (length (m .stages lock)) i (g .board) (midway .job) (whole i (g .board) (midway .job))
     runs =
         let (least, high) = asked-station s i Inside here in
-        let number = G .fixed .number in
-        course start (length (m .stages lock)) i (g .board) (midway .job) (G .agree .fit) (omega arith) (midway .proper)
+        let number = good .fixed .number in
+        course start (length (m .stages lock)) i (g .board) (midway .job) (good .agree .fit) (omega arith) (midway .proper)
 
     -- there is more to do
     pub working : (t : Task) → to-do r i ≡ Going t → Good m lock start (heard h (Slotted i (Ok Working))) (worked-by m r i (Going t))
     working t e =
         let (less, w) = goes-on runs (midway .made) (kept r i .task) (r .board) (midway .not-all) (midway .walked) t e in
         let st = asked-station s i Inside here in
-        let task-is = ap (λ z. z .task) (kept-at (r .stations) i _ (st .0) (G .agree .size) most) in
+        let task-is = ap (λ z. z .task) (kept-at (r .stations) i _ (st .0) (good .agree .size) most) in
         let further : Midway i (g .board) (g .noted i) (kept (worked-by m r i (Going t)) i .task) now =
         record {
           job = midway .job;
@@ -77,15 +77,15 @@ module _ {L : Type 0} (m : Meaning L) (laws : Lawful m) (lock : L) (start : ℕ)
           walked = w ∙ ap (λ z. going z now) (sym task-is);
         }
         in
-        altered m lock start h r i (Slotted i (Ok Working)) G
+        altered m lock start h r i (Slotted i (Ok Working)) good
         record {
           here = here;
           most = most;
-          fixed = G .fixed;
+          fixed = good .fixed;
           moves = sym (moved-same s i Inside here);
           others = slot-others h i Working;
           known = slot-known h i Working known refl (known .last-is) (λ w. never (cc));
-          fit = G .agree .fit;
+          fit = good .agree .fit;
           middle = somebody i (asked-moved s i Inside st) further;
           pays = refl;
         }
@@ -96,12 +96,12 @@ module _ {L : Type 0} (m : Meaning L) (laws : Lawful m) (lock : L) (start : ℕ)
         let o : Outcome = whole i (g .board) (midway .job) in
         let (_, same-verdict, same-board) = ends-here runs (midway .made) (kept r i .task) (r .board) (midway .not-all) (midway .walked) v e in
         let noted = midway .is-noted in
-        let moves = laws .ends (r .lock) i (G .fixed .sound) (ap inside here) in
-        altered m lock start h r i (Slotted i (Ok (Ended v))) G
+        let moves = laws .ends (r .lock) i (good .fixed .sound) (ap inside here) in
+        altered m lock start h r i (Slotted i (Ok (Ended v))) good
         record {
           here = here;
           most = most;
-          fixed = fixed-more m lock (G .fixed) (laws .ended-kept (r .lock) i (G .fixed .sound)) i Leaving moves;
+          fixed = fixed-more m lock (good .fixed) (laws .ended-kept (r .lock) i (good .fixed .sound)) i Leaving moves;
           moves = moves;
           others = slot-others h i (Ended v);
           known = slot-known h i (Ended v) known refl

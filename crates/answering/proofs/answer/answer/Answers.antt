@@ -5,7 +5,7 @@ use Rattle.std.specs.Of.Vec.{vec-items}
 use Rattle.std.proofs.shelf.Lists.{take-rest}
 use Rattle.std.proofs.shelf.Results.{made-weaker}
 use Rattle.answering.specs.Answer.{Served, refusal-of, wrong-first}
-use Rattle.answering.proofs.Outputs.{first-line, begins, served}
+use Rattle.answering.proofs.FirstLine.{first-line, begins, served}
 use Rattle.answering.proofs.answer.answer.Needs as need
 
 pub part-serve-count : need.part-serve-count

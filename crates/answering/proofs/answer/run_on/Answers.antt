@@ -1,6 +1,6 @@
 use mathlib.Core.Path.{_∙_}
 use Rattle.std.specs.Of.Vec.{vec-items}
-use Rattle.answering.proofs.Outputs.{run-written, run-of-lines}
+use Rattle.answering.proofs.RunLines.{run-written, run-of-lines}
 use Rattle.answering.proofs.answer.run_on.Needs as need
 
 pub returns : need.returns
