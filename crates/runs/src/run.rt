@@ -1,4 +1,5 @@
 ghost use mathlib.Core.Path.{_≡_};
+ghost use mathlib.Core.List.{[], _∷_, _++_};
 ghost use Rattle.std.specs.Of.Vec.{vec-items};
 ghost use Rattle.std.specs.Vec.{made};
 ghost use Rattle.rack.specs.Calls.{fresh-rack};
@@ -49,6 +50,13 @@ pub fn make<L: Lock>(rack: &mut Rack<L>, call: Call) -> Event
     }
 }
 
+// Adds what came of a call.
+fn note(events: &mut Vec<Event>, event: Event) -> Result<(), Refused<Event>>
+    ensures { λ r. ⌜ made r (λ _. vec-items (now (events .exit)) ≡ vec-items (now (events .entry)) ++ event ∷ []) ⌝ }
+{
+    events.push(event)
+}
+
 // Sets up a rack with a lock of its own and makes the calls in their order, each on the rack as the one before left it.
 // What the works rely on is `keeps`: with a lock that is sound and at rest, the promise holds of all that came of the calls;
 // `throughout` says the same of every moment on the way. `does` only says that the calls were made.
@@ -70,7 +78,7 @@ pub fn run<L: Lock + Drop>(
     let mut events = Vec::new(heap);
     for call in calls {
         let event = make(&mut rack, *call);
-        events.push(event)?;
+        note(&mut events, event)?;
     }
     Ok(Ran { rack, events })
 }

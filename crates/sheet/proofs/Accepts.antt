@@ -47,20 +47,20 @@ push-column f whole s (x ∷ ds) d =
     rw (not-last whole (ds ++ (d ∷ [])) (simp length-append (omega arith)))
     (followed-twice (content-after f false s x) (λ t. content-at-end f whole t (ds ++ (d ∷ []))) (λ t. content-at-end f false t ds) (λ t. content-after f whole t d) (λ t. push-column f whole t ds d))
 
--- the figures of a number are accepted where the field is blank and after a minus sign
+-- the digits of a number are accepted where the field is blank and after a minus sign
 abbrev Counts : ℕ → List ℕ → Type 0
 Counts n ds = 1 ≤ n → (f : Form) → (f ≡ Zero → ⊥) → (whole : Bool) → (content-at-end f whole Blank ds ≡ Some (Number n)) × (content-at-end f whole Minus ds ≡ Some (Negative n))
 
 counts-one : (n : ℕ) → n < 10 → Counts n ((48 + n) ∷ [])
 counts-one n h o f z whole = (grind (arith, tells), grind (arith, tells))
 
-figure-more : (f : Form) (whole : Bool) (n : ℕ) → (content-after f whole (Number (n / 10)) (48 + n % 10) ≡ Some (Number n)) × (content-after f whole (Negative (n / 10)) (48 + n % 10) ≡ Some (Negative n))
-figure-more f whole n = (grind (arith, tells), grind (arith, tells))
+digit-more : (f : Form) (whole : Bool) (n : ℕ) → (content-after f whole (Number (n / 10)) (48 + n % 10) ≡ Some (Number n)) × (content-after f whole (Negative (n / 10)) (48 + n % 10) ≡ Some (Negative n))
+digit-more f whole n = (grind (arith, tells), grind (arith, tells))
 
 counts-more : (n : ℕ) (ds : List ℕ) → 10 ≤ n → Counts (n / 10) ds → Counts n (ds ++ ((48 + n % 10) ∷ []))
 counts-more n ds h p o f z whole =
     let q = p (omega arith) f z false in
-    (rw (push-column, q .0) (figure-more f whole n .0), rw (push-column, q .1) (figure-more f whole n .1))
+    (rw (push-column, q .0) (digit-more f whole n .0), rw (push-column, q .1) (digit-more f whole n .1))
 
 counts : (n : ℕ) → n < 2 ^ 64 → Counts n (decimal n)
 counts = decimal-by-steps Counts counts-one counts-more

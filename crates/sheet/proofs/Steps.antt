@@ -29,20 +29,20 @@ valid-end f w s v = grind arith
 pub valid-more : (f : Form) (p j : ℕ) (s : Content) (b : ℕ) (t : Content) → 1 ≤ p → Valid f p (suc j) s → content-after f (eqb j 0) s b ≡ Some t → Valid f (p * 10) j t
 valid-more f p j s b t o v e = grind (arith, tells)
 
-one-figure : (b : ℕ) → 48 ≤ b → b ≤ 57 → b ∷ [] ≡ decimal (b - 48)
-one-figure b h g = let e : 48 + (b - 48) ≡ b = omega arith in let d : b - 48 < 10 = omega arith in rw (decimal-digit (b - 48) d, e)
+one-digit : (b : ℕ) → 48 ≤ b → b ≤ 57 → b ∷ [] ≡ decimal (b - 48)
+one-digit b h g = let e : 48 + (b - 48) ≡ b = omega arith in let d : b - 48 < 10 = omega arith in rw (decimal-digit (b - 48) d, e)
 
-more-figures : (n b : ℕ) → 1 ≤ n → n < 10 ^ 8 → 48 ≤ b → b ≤ 57 → decimal n ++ (b ∷ []) ≡ decimal (n * 10 + (b - 48))
-more-figures n b o h g k =
+more-digits : (n b : ℕ) → 1 ≤ n → n < 10 ^ 8 → 48 ≤ b → b ≤ 57 → decimal n ++ (b ∷ []) ≡ decimal (n * 10 + (b - 48))
+more-digits n b o h g k =
     let front : (n * 10 + (b - 48)) / 10 ≡ n = omega arith in
     let back : 48 + (n * 10 + (b - 48)) % 10 ≡ b = omega arith in
     rw (decimal-step (n * 10 + (b - 48)) (omega arith) (omega arith), front, back)
 
 shown-more : (f : Form) (p j : ℕ) (s : Content) (b : ℕ) (t : Content) → p ≤ 10 ^ 8 → Valid f p (suc j) s → content-after f (eqb j 0) s b ≡ Some t → (shown s ++ (b ∷ []) ≡ shown t) ⊎ ((s ≡ Blank) × (t ≡ Blank) × (b ≡ 32))
-shown-more f p j Blank b t h v e = grind (arith, tells, one-figure)
-shown-more f p j Minus b t h v e = grind (arith, tells, one-figure)
-shown-more f p j (Number n) b t h v e = grind (arith, tells, more-figures)
-shown-more f p j (Negative n) b t h v e = grind (arith, tells, more-figures)
+shown-more f p j Blank b t h v e = grind (arith, tells, one-digit)
+shown-more f p j Minus b t h v e = grind (arith, tells, one-digit)
+shown-more f p j (Number n) b t h v e = grind (arith, tells, more-digits)
+shown-more f p j (Negative n) b t h v e = grind (arith, tells, more-digits)
 
 pub grown : (f : Form) (k j : ℕ) (s : Content) (b : ℕ) (t : Content) → 10 ^ k ≤ 10 ^ 8 → Valid f (10 ^ k) (suc j) s → content-after f (eqb j 0) s b ≡ Some t → justified k (shown s) ++ (b ∷ []) ≡ justified (suc k) (shown t)
 grown f k j s b t h v e =

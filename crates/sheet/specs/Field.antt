@@ -52,30 +52,30 @@ abbrev pub content-signed : ℤ → Content
 content-signed (pos n) = Number n
 content-signed (negsuc n) = Negative (suc n)
 
-abbrev pub first-figure : Form → ℕ → Option Content
-first-figure Natural b = Some (Number (b - 48))
-first-figure Signed b = Some (Number (b - 48))
-first-figure Zero b = None
+abbrev pub first-digit : Form → ℕ → Option Content
+first-digit Natural b = Some (Number (b - 48))
+first-digit Signed b = Some (Number (b - 48))
+first-digit Zero b = None
 
 abbrev pub first-minus : Form → Option Content
 first-minus Natural = None
 first-minus Signed = Some Minus
 first-minus Zero = None
 
--- a figure from `low` to '9', as a Bool
-abbrev pub figure : ℕ → ℕ → Bool
-figure low b = cond (leb low b) (leb b 57) false
+-- a digit from `low` to '9', as a Bool
+abbrev pub digit : ℕ → ℕ → Bool
+digit low b = cond (leb low b) (leb b 57) false
 
 -- the content after the column b, the last of its field or not
 abbrev pub content-after : Form → Bool → Content → ℕ → Option Content
 content-after f last Blank b =
     cond (eqb b 32) (cond last None (Some Blank))
     (cond (eqb b 48) (cond last (Some (Number 0)) None)
-    (cond (figure 49 b) (first-figure f b)
+    (cond (digit 49 b) (first-digit f b)
     (cond (eqb b 45) (cond last None (first-minus f)) None)))
-content-after f last Minus b = cond (figure 49 b) (Some (Negative (b - 48))) None
-content-after f last (Number n) b = cond (figure 48 b) (Some (Number (n * 10 + (b - 48)))) None
-content-after f last (Negative n) b = cond (figure 48 b) (Some (Negative (n * 10 + (b - 48)))) None
+content-after f last Minus b = cond (digit 49 b) (Some (Negative (b - 48))) None
+content-after f last (Number n) b = cond (digit 48 b) (Some (Number (n * 10 + (b - 48)))) None
+content-after f last (Negative n) b = cond (digit 48 b) (Some (Negative (n * 10 + (b - 48)))) None
 
 -- the content before the last column, and that column
 abbrev pub content-before : Content → Content × ℕ

@@ -28,7 +28,7 @@ fn value_columns(value: Content) -> [u8; 8]
     [v1, v2, v3, v4, v5, v6, v7, v8]
 }
 
-// A line of the output. Of a number with too many figures it has the last ones.
+// A line of the output. Of a number with too many digits it has the last ones.
 pub fn write_line(letter: u8, station: usize, value: Content) -> [u8; 13]
     ensures { λ r. ⌜ r ≡ line-text letter station (shown value) ⌝ }
 {

@@ -23,9 +23,9 @@ loop-call-again g c =
     let calls : List Call = c .args .calls .now in
     let index : ℕ = c .loop-call .call-index in
     let none : Call = Order 0 (Trim (pos 0)) in
-    one-more (g .L·Lock .meaning) (c .in-Ok .rack) calls (c .loop-call .rack) (c .make-event .last .rack) (vec-items (c .loop-call .events)) (vec-items (c .push .last .self))
+    one-more (g .L·Lock .meaning) (c .in-Ok .rack) calls (c .loop-call .rack) (c .make-event .last .rack) (vec-items (c .loop-call .events)) (vec-items (c .note .last .events))
     (getD calls index none) (drop index calls) (drop (index + 1) calls) (c .make-event .result) (drop-more calls index none (c .loop-call-test .taken)) (c .make-event .ensures .left)
-    (c .make-event .ensures .said) (c .in-Continue-push .ensures tt .items) (c .loop-call .inv)
+    (c .make-event .ensures .said) (c .in-Continue-note .ensures tt) (c .loop-call .inv)
 
 pub returns : need.returns
 returns g c =
@@ -50,8 +50,8 @@ returns g c =
       refuses = low;
     }
 
-pub returns-in-Break-push : need.returns-in-Break-push
-returns-in-Break-push g c =
+pub returns-in-Break-note : need.returns-in-Break-note
+returns-in-Break-note g c =
     let (low, new) = taken-set-up (c .args .lock) (c .args .start) (c .in-Ok .rack) (c .in-Ok .ensures tt) in
     let no-memory = c .from-residual .ensures .0 in
     record {
