@@ -3,5 +3,3 @@
 pub mod answer;
 mod calls;
 pub mod output;
-#[cfg(test)]
-mod tests;

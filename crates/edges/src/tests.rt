@@ -9,9 +9,7 @@ use lock::stage::StagePartialEq;
 use one_bit::OneBit;
 use one_bit::OneBitLock;
 use rack::answers::Refusal;
-use rack::answers::RefusalDebug;
 use rack::answers::RefusalFromWrongStationCount;
-use rack::answers::RefusalPartialEq;
 use rack::answers::Served;
 use rack::calls::Rack;
 use std::test::*;
@@ -121,4 +119,23 @@ fn a_count_stops_at_its_bound() -> Result<(), Fail> {
     let seen = rack.look(2).ok().ok_or("no look")?;
     check_eq(seen.count, 65_535)?;
     check_eq(seen.stage, Stage::Trying)
+}
+
+// Station 2 sees the flag of station 1, lowers its own, and enters once station 1 has left.
+#[test]
+fn under_the_one_bit_lock_the_lower_goes_first() -> Result<(), Fail> {
+    let mut lock = OneBit::new(2).ok().ok_or("no lock")?;
+    check(lock.begin(1) && lock.begin(2))?;
+    for i in [1, 2, 2, 1, 2, 1, 2] {
+        check(lock.turn(i))?;
+    }
+    check_eq(lock.stage(1), Some(Stage::Inside))?;
+    check_eq(lock.stage(2), Some(Stage::Trying))?;
+    check(lock.end(1))?;
+    for i in [1, 2, 2, 2] {
+        check(lock.turn(i))?;
+    }
+    check_eq(lock.stage(1), Some(Stage::Rest))?;
+    check_eq(lock.stage(2), Some(Stage::Inside))?;
+    check_eq(lock.stage(3), None)
 }

@@ -3,5 +3,3 @@ pub mod board;
 pub mod job;
 pub mod laws;
 pub mod task;
-#[cfg(test)]
-mod tests;

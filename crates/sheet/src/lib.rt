@@ -4,6 +4,4 @@ pub mod calls;
 pub mod field;
 pub mod line;
 pub mod read;
-#[cfg(test)]
-mod tests;
 pub mod write;
