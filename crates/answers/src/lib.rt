@@ -1,4 +1,6 @@
 // What the calls on a rack answer, and the number by which each answer is shown.
+#![tactic(auto)]
+
 ghost use Rattle.std.specs.Prelude.{◌≡◌};
 ghost use Rattle.answers.specs.Numbers.{refusal_number, served_number, last_number, inside_number};
 ghost use Rattle.answers.specs.declared.Refusal.TheVariants.{StationCount};

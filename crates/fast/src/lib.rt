@@ -1,5 +1,7 @@
 // Lamport's fast mutual exclusion: a lock for 1 to 16 stations with the registers X and Y and one flag for each station,
 // of which a turn reads or writes one. A station that is alone gets in with 5 turns, however many stations there are.
+#![tactic(auto)]
+
 ghost use Rattle.std.specs.Prelude.{◌≡◌};
 ghost use Rattle.lock.specs.Fresh.{Made};
 ghost use Rattle.fast.specs.Registers.{place_of, value_of, with_value, with_place, performed, carried};

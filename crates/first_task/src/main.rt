@@ -1,4 +1,6 @@
 // One task from beginning to end, told in words: a trim, slot by slot, that another station takes back, and a signature.
+#![tactic(auto)]
+
 use answers::{Refusal, Served};
 use anyhow::anyhow;
 use feed::job::{Job, Verdict};

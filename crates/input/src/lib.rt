@@ -1,4 +1,6 @@
 // A sheet's bytes from wherever a program reads them.
+#![tactic(auto)]
+
 ghost use Rattle.std.specs.Prelude.{◌≤◌, IfOk, vec_len};
 
 use std::alloc::Global;

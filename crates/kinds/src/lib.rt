@@ -1,4 +1,6 @@
 // The kinds of lock that a set-up can ask for, and whole runs on a rack by its kind of lock, its number of stations and its start.
+#![tactic(auto)]
+
 ghost use Rattle.std.specs.Prelude.{◌≡◌, IfOk, OnOk};
 ghost use Rattle.kinds.specs.Runs.{set_up_refusal, events_in, board_in, MadeRun, KindRun};
 ghost use Rattle.kinds.specs.Promise.{MadePromise, MadeThroughout, KindPromise, KindThroughout};
@@ -69,9 +71,9 @@ fn run_if_made<L: Lock + Drop>(
     start: u32,
     calls: &[Call],
 ) -> Result<Ran<L>, Fault>
-    ensures keeps { IfOk result (λ d. MadePromise meaning lock start d.events.items d.rack) }
-    ensures throughout { OnOk result (MadeThroughout meaning lock start calls.now) }
-    ensures does { MadeRun meaning lock start calls.now result }
+    ensures keeps { IfOk result (λ d. MadePromise L.meaning lock start d.events.items d.rack) }
+    ensures throughout { OnOk result (MadeThroughout L.meaning lock start calls.now) }
+    ensures does { MadeRun L.meaning lock start calls.now result }
 {
     match lock {
         Ok(lock) => run(heap, lock, start, calls),

@@ -1,5 +1,5 @@
 -- Of a lock that keeps a place for each of its stations, sound or not: a station's stage is that of its place.
-use Rattle.std.proofs.Common.{◌≡◌, ℕ, ◌-◌, ◌<◌, ◌≤◌, min, Bool, false, ◌⊎◌, List, length, get_or, Some, None, sym, ap, ◌∙◌, ⊎_elim, arith}
+use Rattle.std.proofs.Common.{◌≡◌, ℕ, ◌-◌, ◌<◌, ◌≤◌, min, Bool, false, ◌⊎◌, List, length, get_or, Some, sym, ap, ◌∙◌, ⊎_elim, arith}
 use Rattle.std.proofs.lemmas.List.{get_or_past}
 use Rattle.lock.specs.declared.stage.Stage.{Stage}
 use Rattle.lock.specs.Stages.{asked, moving, is_moving}

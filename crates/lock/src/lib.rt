@@ -1,4 +1,6 @@
 // What a lock is: the stage of each of its stations, the four functions that move them, and the laws that it owes.
+#![tactic(auto)]
+
 ghost use Rattle.std.specs.Prelude.{◌≡◌, Option};
 ghost use Rattle.lock.specs.Stages.{asked, is_resting, is_moving, is_inside};
 ghost use Rattle.lock.specs.Meaning.{Meaning, Lawful};

@@ -1,4 +1,6 @@
 // Lamport's One-Bit algorithm: a lock for 1 to 16 stations with one flag for each, of which a turn reads or writes one.
+#![tactic(auto)]
+
 ghost use Rattle.std.specs.Prelude.{◌≡◌};
 ghost use Rattle.lock.specs.Fresh.{Made};
 ghost use Rattle.one_bit.specs.Registers.{place_of, value_of, with_value, with_place, performed, carried};

@@ -1,4 +1,6 @@
 // The lines of the output: those of the set-up and of each call, in the columns of the sheet, and those of the end.
+#![tactic(auto)]
+
 ghost use Rattle.std.specs.Prelude.{◌≡◌, ◌++◌, OnOk};
 ghost use Rattle.std.specs.List.{flat_map};
 ghost use Rattle.answers.specs.Numbers.{order_number, slot_number};

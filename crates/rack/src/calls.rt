@@ -1,6 +1,6 @@
 ghost use Rattle.std.specs.Prelude.{◌≡◌, ◌≤◌, Some, None};
 ghost use Rattle.feed.specs.Board.{read};
-ghost use Rattle.rack.specs.Calls.{stage_of, fault, order_answer, order_rack, slot_answer, slot_rack, turned_rack, worked_answer, worked_rack, look_answer, next_access, inside_among, board_answer, set_up as Setting-up};
+ghost use Rattle.rack.specs.Calls.{stage_of, fault, order_answer, order_rack, slot_answer, slot_rack, turned_rack, worked_answer, worked_rack, look_answer, next_access, inside_among, board_answer, set_up as setting_up};
 
 use answers::{Refusal, Seen, Served, View};
 use bus::Access;
@@ -52,7 +52,7 @@ fn wrong(job: Job) -> Option<Refusal>
 impl<L: Lock + Drop> Rack<L> {
     // A rack with a lock of its own; its stations have made no slot yet.
     pub fn set_up(lock: L, start: u32) -> Result<Rack<L>, Refusal>
-        ensures { result ≡ Setting-up lock start }
+        ensures { result ≡ setting_up lock start }
     {
         if start > 400_000 {
             return Err(Refusal::Start);
@@ -73,7 +73,7 @@ impl<L: Lock + Drop> Rack<L> {
 impl<L: Lock> Rack<L> {
     // The station's stage, or nothing for a number that is no station's.
     fn stage(&self, station: usize) -> Option<Stage>
-        ensures value { result ≡ stage_of meaning self.now station }
+        ensures value { result ≡ stage_of L.meaning self.now station }
         ensures within { elim result [ Some _ ↦ (1 ≤ station) × (station ≤ 16) | None ↦ Unit {0} ] }
     {
         if station == 0 || station > 16 {
@@ -84,8 +84,8 @@ impl<L: Lock> Rack<L> {
 
     // Gives a resting station a job. It makes no access.
     pub fn order(&mut self, station: usize, job: Job) -> Result<(), Refusal>
-        ensures left { self.new ≡ order_rack meaning self.old station job }
-        ensures said { result ≡ order_answer meaning self.old station job }
+        ensures left { self.new ≡ order_rack L.meaning self.old station job }
+        ensures said { result ≡ order_answer L.meaning self.old station job }
     {
         match (self.stage(station), wrong(job)) {
             (None, _) => Err(Refusal::StationNumber),
@@ -106,8 +106,8 @@ impl<L: Lock> Rack<L> {
 
     // Serves one station: one access.
     pub fn slot(&mut self, station: usize) -> Result<Served, Refusal>
-        ensures left { self.new ≡ slot_rack meaning self.old station }
-        ensures said { result ≡ slot_answer meaning self.old station }
+        ensures left { self.new ≡ slot_rack L.meaning self.old station }
+        ensures said { result ≡ slot_answer L.meaning self.old station }
     {
         match self.stage(station) {
             None => Err(Refusal::StationNumber),
@@ -133,7 +133,7 @@ impl<L: Lock> Rack<L> {
     // One turn of the lock, counted.
     fn turn(&mut self, station: usize)
         requires { (1 ≤ station) × (station ≤ 16) }
-        ensures { self.new ≡ turned_rack meaning self.old station }
+        ensures { self.new ≡ turned_rack L.meaning self.old station }
     {
         self.lock.turn(station);
         self.stations[station - 1].count = self.stations[station - 1].count.saturating_add(1);
@@ -142,7 +142,7 @@ impl<L: Lock> Rack<L> {
     // One access of the station's job, counted; with the last one the station's time inside ends.
     fn work(&mut self, station: usize) -> Served
         requires { (1 ≤ station) × (station ≤ 16) }
-        ensures left { self.new ≡ worked_rack meaning self.old station }
+        ensures left { self.new ≡ worked_rack L.meaning self.old station }
         ensures said { result ≡ worked_answer self.old station }
     {
         let Station { task, count, last } = self.stations[station - 1];
@@ -163,7 +163,7 @@ impl<L: Lock> Rack<L> {
 
     // A station's stage, count and last verdict. It alters nothing.
     pub fn look(&self, station: usize) -> Result<Seen, Refusal>
-        ensures { result ≡ look_answer meaning self.now station }
+        ensures { result ≡ look_answer L.meaning self.now station }
     {
         match self.stage(station) {
             None => Err(Refusal::StationNumber),
@@ -176,7 +176,7 @@ impl<L: Lock> Rack<L> {
 
     // The access that the next slot of a station inside makes on the board; none for any other station.
     pub fn next_access(&self, station: usize) -> Option<Access<Register, i32>>
-        ensures { result ≡ next_access meaning self.now station }
+        ensures { result ≡ next_access L.meaning self.now station }
     {
         match self.stage(station) {
             Some(Stage::Inside) => Some(self.stations[station - 1].task.access(station as u8)),
@@ -186,7 +186,7 @@ impl<L: Lock> Rack<L> {
 
     // The station inside, if there is one, found by asking the lock.
     fn inside(&self) -> Option<usize>
-        ensures { result ≡ inside_among (meaning.stages self.now.lock) 16 }
+        ensures { result ≡ inside_among (L.meaning.stages self.now.lock) 16 }
     {
         let mut inside = None;
         for k in 0..16 {
@@ -199,7 +199,7 @@ impl<L: Lock> Rack<L> {
 
     // What the board shows; with a station inside, its job may be half done.
     pub fn board(&self) -> View
-        ensures { result ≡ board_answer meaning self.now }
+        ensures { result ≡ board_answer L.meaning self.now }
     {
         View {
             setpoint: self.board.read(Register::Setpoint),

@@ -35,8 +35,8 @@ pub struct Ran<L> {
 
 // Makes one call, and tells what came of it.
 pub fn make<L: Lock>(rack: &mut Rack<L>, call: Call) -> Event
-    ensures left { rack.new ≡ after meaning rack.old call }
-    ensures said { result ≡ event meaning rack.old call }
+    ensures left { rack.new ≡ after L.meaning rack.old call }
+    ensures said { result ≡ event L.meaning rack.old call }
 {
     match call {
         Call::Order(station, job) => Event::Ordered(station, job, rack.order(station, job)),
@@ -62,9 +62,9 @@ pub fn run<L: Lock + Drop>(
     start: u32,
     calls: &[Call],
 ) -> Result<Ran<L>, Fault>
-    ensures keeps { IfOk result (λ d. Ready meaning lock → Promise meaning lock start d.events.items d.rack) }
-    ensures throughout { IfOk result (λ d. Ready meaning lock → Throughout meaning lock start calls.now) }
-    ensures does { IfOk result (λ d. (d.rack ≡ ran meaning (fresh_rack lock start) calls.now) × (d.events.items ≡ events-of meaning (fresh_rack lock start) calls.now)) }
+    ensures keeps { IfOk result (λ d. Ready L.meaning lock → Promise L.meaning lock start d.events.items d.rack) }
+    ensures throughout { IfOk result (λ d. Ready L.meaning lock → Throughout L.meaning lock start calls.now) }
+    ensures does { IfOk result (λ d. (d.rack ≡ ran L.meaning (fresh_rack lock start) calls.now) × (d.events.items ≡ events-of L.meaning (fresh_rack lock start) calls.now)) }
     ensures refuses { SetUpRefused start result }
 {
     let mut rack = match Rack::set_up(lock, start) {

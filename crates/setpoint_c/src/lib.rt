@@ -1,5 +1,7 @@
 // The interface for firmware in C: functions on numbers and bytes, declared in include/setpoint_rack.h. A whole sheet crosses, and
 // not a rack: a rack holds enums, which have no form in C.
+#![tactic(auto)]
+
 ghost use Rattle.std.specs.Prelude.{◌≡◌, ◌≤◌, length, ◌≢◌};
 ghost use Rattle.setpoint_c.specs.Outcomes.{outcome_number};
 ghost use Rattle.setpoint_c.specs.declared.outcome.Outcome.TheVariants.{TooSmall};

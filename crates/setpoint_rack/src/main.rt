@@ -1,4 +1,6 @@
 // Reads a sheet from standard input, and writes the answers to standard output.
+#![tactic(auto)]
+
 use answering::answer::answer;
 use input::read_sheet;
 use std::io::Write;

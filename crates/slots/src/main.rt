@@ -1,5 +1,7 @@
 // Makes slots of a rack, or turns of a lock alone, and prints a checksum of what they answered: work to be measured,
 // and a number by which a program in another language is seen to have done the same.
+#![tactic(auto)]
+
 use answers::Served;
 use anyhow::anyhow;
 use fast::Fast;

@@ -1,4 +1,6 @@
 // A lock for one station, the smallest that is lawful: its first turn takes it inside, and its first turn after its end to rest.
+#![tactic(auto)]
+
 ghost use Rattle.std.specs.Prelude.{◌≡◌};
 ghost use Rattle.lock.specs.Fresh.{Fresh};
 ghost use Rattle.solo.specs.Meaning.{solo_meaning, at_rest};

@@ -1,4 +1,6 @@
 // Answers stored sheets and compares the answers with those of a second program, stored beside them.
+#![tactic(auto)]
+
 use answering::answer::answer;
 use std::fs;
 use std::rt::Files;

@@ -1,4 +1,6 @@
 // Reads a sheet from standard input, and tells for people what happened: each call in words, and the rack at the end.
+#![tactic(auto)]
+
 use crate::whole::tell_sheet;
 use input::read_sheet;
 
