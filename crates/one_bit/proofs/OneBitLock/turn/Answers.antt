@@ -6,5 +6,5 @@ use Rattle.one_bit.proofs.OneBitLock.turn.Goals as goal
 pub returns : goal.returns
 returns c = record {
   left = search rules;
-  said = c.is-some.ensures ∙ let e : c.match-access.access ≡ c.access-access.result = search rules in ap is_some (e ∙ c.access-access.ensures) ∙ ap (λ p. is_some (access_at c.args.station p)) c.place-place.ensures ∙ sym (moving_access c.args.self.now c.args.station);
+  said = c.is_some.ensures ∙ let e : c.match-access.access ≡ c.access-access.result = search rules in ap is_some (e ∙ c.access-access.ensures) ∙ ap (λ p. is_some (access_at c.args.station p)) c.place-place.ensures ∙ sym (moving_access c.args.self.now c.args.station);
 }
