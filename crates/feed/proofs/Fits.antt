@@ -1,5 +1,5 @@
 -- A board between two jobs keeps the limits, and its setpoint is the start and the sum of its pile; a fresh board is one.
-use Rattle.std.proofs.Common.{◌≡◌, ℕ, ◌≤◌, replicate, ℤ, pos, ◌+ℤ◌, sym, refl, subst, arith}
+use Rattle.std.proofs.Common.{◌≡◌, ℕ, ◌≤◌, replicate, pos, ◌+ℤ◌, sym, refl, subst, arith}
 use Rattle.feed.specs.Board.{fresh}
 use Rattle.feed.specs.Job.{ceiling, most_entries}
 use Rattle.feed.specs.Whole.{setpoint, pile, sum}
