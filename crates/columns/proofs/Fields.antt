@@ -1,5 +1,5 @@
 -- The 12 bytes after a letter: the two fields and the line feed.
-use Rattle.std.proofs.Common.{◌≡◌, ℕ, suc, ◌+◌, ◌-◌, ◌%◌, ◌^◌, ◌<◌, ◌≤◌, List, [], ◌∷◌, ◌++◌, length, get_or, take, drop, replicate, Ok, Err, decimal, sym, refl, ap, ◌∙◌, subst, arith, lit<, lit≤, length-append}
+use Rattle.std.proofs.Common.{◌≡◌, ℕ, suc, ◌+◌, ◌-◌, ◌%◌, ◌^◌, ◌<◌, List, [], ◌∷◌, ◌++◌, length, get_or, take, drop, replicate, Ok, Err, decimal, sym, refl, ap, ◌∙◌, subst, arith, lit<, lit≤, length-append}
 use Rattle.std.proofs.lemmas.Fmt.{decimal_by_steps}
 use Rattle.columns.specs.declared.field.Form.{Form}
 use Rattle.columns.specs.declared.field.Form.TheVariants.{Natural, Signed}

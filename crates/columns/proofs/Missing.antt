@@ -1,5 +1,5 @@
 -- Missing bytes count as 0, which no line has: a text that ends too early stops where its zeros begin.
-use Rattle.std.proofs.Common.{◌≡◌, ℕ, zero, suc, ◌+◌, ◌-◌, ◌<◌, ◌≤◌, List, [], ◌∷◌, ◌++◌, length, get_or, take, drop, replicate, sym, refl, ap, ◌∙◌, arith, lit≤, take_all}
+use Rattle.std.proofs.Common.{◌≡◌, ℕ, zero, suc, ◌+◌, ◌<◌, ◌≤◌, List, [], ◌∷◌, ◌++◌, length, get_or, take, drop, replicate, sym, refl, ap, ◌∙◌, arith, lit≤, take_all}
 use Rattle.columns.specs.Stops.{Stops}
 
 -- w bytes of a text from the index i on
