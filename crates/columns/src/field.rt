@@ -80,7 +80,9 @@ pub(crate) fn read_field<const N: usize>(
     first: usize,
     field: &[u8; N],
 ) -> Result<Content, usize>
-    requires { (first ≤ 13) × ((1 ≤ length field.now) × ((length field.now ≤ 8) × (length field.now ≡ N))) }
+    requires on_line { first ≤ 13 }
+    requires some { 1 ≤ length field.now }
+    requires few { length field.now ≤ 8 }
     ensures { FieldRead form first field.now result }
 {
     let mut content = Content::Blank;
