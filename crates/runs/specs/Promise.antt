@@ -1,6 +1,6 @@
 -- What the works rely on after any list of calls, in any order of slots, whatever the lock.
 -- It speaks of the events, of the ledger, and of what look and board show.
-use Rattle.std.specs.Prelude.{◌≡◌, ℕ, ◌+◌, ◌≤◌, min, List, ◌∷◌, ◌++◌, length, ℤ, pos, ◌+ℤ◌, Some, None, Ok, ◌≢◌, nat_le}
+use Rattle.std.specs.Prelude.{◌≡◌, ℕ, ◌+◌, ◌≤◌, min, List, ◌∷◌, ◌++◌, length, pos, ◌+ℤ◌, Some, None, Ok, ◌≢◌, nat_le}
 use Rattle.lock.specs.declared.stage.Stage.TheVariants.{Rest, Inside}
 use Rattle.lock.specs.Stages.{AllRest}
 use Rattle.lock.specs.Meaning.{Meaning, Exactly}

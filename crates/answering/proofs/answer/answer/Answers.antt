@@ -5,11 +5,11 @@ use Rattle.answering.specs.Answer.{Served, refusal_of, wrong_first}
 use Rattle.answering.proofs.FirstLine.{first_line, begins, served}
 use Rattle.answering.proofs.answer.answer.Goals as goal
 
-pub slice-bounds-serve-count : goal.slice-bounds-serve-count
-slice-bounds-serve-count c = first_line c.args.text.now c.in-Ok.set_up c.in-Ok.ensures
+pub slice_bounds-serve-count : goal.slice_bounds-serve-count
+slice_bounds-serve-count c = first_line c.args.text.now c.in-Ok.set_up c.in-Ok.ensures
 
-pub slice-bounds-serve-start : goal.slice-bounds-serve-start
-slice-bounds-serve-start c = let h = first_line c.args.text.now c.in-Ok.set_up c.in-Ok.ensures in search rules
+pub slice_bounds-serve-start : goal.slice_bounds-serve-start
+slice_bounds-serve-start c = let h = first_line c.args.text.now c.in-Ok.set_up c.in-Ok.ensures in search rules
 
 pub returns-in-Ok : goal.returns-in-Ok
 returns-in-Ok c =
@@ -21,6 +21,6 @@ returns-in-Ok c =
 
 pub returns-in-Err : goal.returns-in-Err
 returns-in-Err c =
-    IfOk-weaker c.from-slice-in-Err.result _ _
+    IfOk-weaker c.from_slice-in-Err.result _ _
     (λ out e. wrong_first (omega arith) c.in-Err.column c.in-Err.ensures (e.0 ∙ c.to-line-in-Err.ensures))
-    c.from-slice-in-Err.ensures.made
+    c.from_slice-in-Err.ensures.made

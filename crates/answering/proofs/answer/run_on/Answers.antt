@@ -5,10 +5,10 @@ use Rattle.answering.proofs.answer.run_on.Goals as goal
 pub returns : goal.returns
 returns c =
     let x = c.args.set_up in
-    let read = c.in-ok-read.read in
+    let read = c.in_ok-read.read in
     let calls = c.deref-2.result.now in
     run_of_lines x c.args.later.now (vec_items c.add-end.new.out) (vec_items read.calls) c.deref.result.now calls read.stop
-    c.in-ok-read.ensures c.deref.ensures.value (c.deref-2.ensures.value ∙ c.in-ok-calls.ensures)
-    (run_written x calls c.in-ok-ran.ran c.in-ok-ran.ensures read.stop c.events.result.now c.board.result
-    c.line-of-set-up.result (vec_items c.in-ok-out.out) (vec_items c.add-events.new.out) (vec_items c.add-end.new.out) c.events.ensures c.board.ensures
-    c.line-of-set-up.ensures c.in-ok-out.ensures.items c.in-ok-add-events.ensures c.in-ok-add-end.ensures)
+    c.in_ok-read.ensures c.deref.ensures.value (c.deref-2.ensures.value ∙ c.in_ok-calls.ensures)
+    (run_written x calls c.in_ok-ran.ran c.in_ok-ran.ensures read.stop c.events.result.now c.board.result
+    c.line-of-set-up.result (vec_items c.in_ok-out.out) (vec_items c.add-events.new.out) (vec_items c.add-end.new.out) c.events.ensures c.board.ensures
+    c.line-of-set-up.ensures c.in_ok-out.ensures.items c.in_ok-add-events.ensures c.in_ok-add-end.ensures)

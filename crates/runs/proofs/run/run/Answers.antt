@@ -19,7 +19,7 @@ loop-call-preserved g c =
     let none : Call = Order 0 (Trim (pos 0)) in
     one_more g.L.Lock.meaning c.in-Ok.rack calls c.loop-call.rack c.make-event.new.rack (vec_items c.loop-call.events) (vec_items c.note.new.events)
     (get_or calls index none) (drop index calls) (drop (index + 1) calls) c.make-event.result (drop_more calls index none c.loop-call-test.true) c.make-event.ensures.left
-    c.make-event.ensures.said c.in-ok-note.ensures c.loop-call.invariant
+    c.make-event.ensures.said c.in_ok-note.ensures c.loop-call.invariant
 
 pub returns : goal.returns
 returns g c =
@@ -44,13 +44,13 @@ returns g c =
       refuses = low;
     }
 
-pub returns-in-err-note : goal.returns-in-err-note
-returns-in-err-note g c =
+pub returns-in_err-note : goal.returns-in_err-note
+returns-in_err-note g c =
     let (low, new) = taken_set_up c.args.lock c.args.start c.in-Ok.rack c.in-Ok.ensures in
-    let no_memory = c.from-residual.ensures.0 in
+    let no_memory = c.from_residual.ensures.0 in
     record {
-      keeps = IfOk-from_err c.from-residual.result _ no_memory;
-      throughout = IfOk-from_err c.from-residual.result _ no_memory;
-      does = IfOk-from_err c.from-residual.result _ no_memory;
+      keeps = IfOk-from_err c.from_residual.result _ no_memory;
+      throughout = IfOk-from_err c.from_residual.result _ no_memory;
+      does = IfOk-from_err c.from_residual.result _ no_memory;
       refuses = search rules;
     }

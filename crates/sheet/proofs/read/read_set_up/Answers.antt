@@ -9,10 +9,10 @@ returns-in-default c = no_set_up c.args.text.now (λ some. let short : length c.
 pub returns-in-default-kind-of : goal.returns-in-default-kind-of
 returns-in-default-kind-of c = no_set_up c.args.text.now (λ some. c.in-default-kind-of.ensures)
 
-pub returns-in-err-stations : goal.returns-in-err-stations
-returns-in-err-stations c =
-    let p = err_from_is_err_and c.from-residual.result c.from-residual.ensures.1 in
-    rw (p.1, p.2) (set_up_wrong c.args.text.now c.in-Some.kind (sym c.in-Some.ensures) _ c.in-err-stations.ensures)
+pub returns-in_err-stations : goal.returns-in_err-stations
+returns-in_err-stations c =
+    let p = err_from_is_err_and c.from_residual.result c.from_residual.ensures.1 in
+    rw (p.1, p.2) (set_up_wrong c.args.text.now c.in-Some.kind (sym c.in-Some.ensures) _ c.in_err-stations.ensures)
 
 pub returns : goal.returns
-returns c = rw c.size.ensures (set_up_right c.args.text.now c.in-Some.kind (sym c.in-Some.ensures) _ _ c.in-ok-stations.ensures)
+returns c = rw c.size.ensures (set_up_right c.args.text.now c.in-Some.kind (sym c.in-Some.ensures) _ _ c.in_ok-stations.ensures)
