@@ -6,7 +6,7 @@ use Rattle.fast.specs.Places.{access_at}
 use Rattle.fast.specs.Turns.{next}
 use Rattle.fast.specs.Stations.{moving_access}
 use Rattle.fast.proofs.FastLock.turn.Goals as goal
-use Rattle.fast.proofs.FastLock.turn.Goals.{in-Some, in-default, in-Idle-default, in-Raise-default, in-Announce-default, in-Glance-eq0, in-Glance-default, in-Retreat-default, in-Await-eq0, in-Await-default, in-Claim-default, in-Confirm-default, in-Confirm-default-2, in-Lower-default, in-Scan-eq0, in-Scan-default, in-Recheck-default, in-Recheck-default-2, in-Retry-eq0, in-Retry-default, in-Within-default, in-Release-default, in-Clear-default}
+use Rattle.fast.proofs.FastLock.turn.Goals.{in-Some, in_default, in-Idle-default, in-Raise-default, in-Announce-default, in-Glance-eq0, in-Glance-default, in-Retreat-default, in-Await-eq0, in-Await-default, in-Claim-default, in-Confirm-default, in-Confirm-default-2, in-Lower-default, in-Scan-eq0, in-Scan-default, in-Recheck-default, in-Recheck-default-2, in-Retry-eq0, in-Retry-default, in-Within-default, in-Release-default, in-Clear-default}
 
 -- from the place p to q, among n stations, where station i reads v
 module _ (n i v : ℕ) (p q : Place) where
@@ -51,10 +51,10 @@ returns c = record {
           | in-Clear-default v ↦ search rules
         ] in
         search rules
-    | in-default w ↦ search rules
+    | in_default w ↦ search rules
   ];
   said =
       let same : c.match-access.access ≡ c.access-access.result = search rules in
-      c.is-some.ensures ∙ ap is_some (same ∙ c.access-access.ensures)
+      c.is_some.ensures ∙ ap is_some (same ∙ c.access-access.ensures)
       ∙ ap (λ p. is_some (access_at c.args.station p)) c.place-place.ensures ∙ sym (moving_access c.args.self.now c.args.station);
 }
