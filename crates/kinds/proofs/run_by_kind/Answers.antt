@@ -34,14 +34,14 @@ returns-in-Ok c =
           (ap (λ b. cond b (Some StationCount) (start_refusal start)) t.good ∙ t.low, subst (λ k. KindCalls k n start calls (OnFast ran)) (sym c.in-Fast.is) t.did);
     }
 
-pub returns-in-Ok-run-if-made : goal.returns-in-Ok-run-if-made
-returns-in-Ok-run-if-made c =
+pub returns-in-Ok-run_if_made : goal.returns-in-Ok-run_if_made
+returns-in-Ok-run_if_made c =
     let n = c.args.stations in
     let start = c.args.start in
     let calls = c.args.calls.now in
-    let ran = c.in-Ok-run-if-made.ran in
+    let ran = c.in-Ok-run_if_made.ran in
     let made = c.new-in-OneBit.ensures.value in
-    let came = c.in-Ok-run-if-made.ensures in
+    let came = c.in-Ok-run_if_made.ensures in
     let t = taken one_bit_meaning _ (fresh_one_bit n) n start calls ran _ (subst (Made one_bit_meaning n) made c.new-in-OneBit.ensures.fresh)
     (subst (λ z. MadeRun one_bit_meaning z start calls (Ok ran)) made came.does)
     (subst (λ z. MadePromise one_bit_meaning z start (vec_items ran.events) ran.rack) made came.keeps)
