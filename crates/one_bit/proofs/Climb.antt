@@ -13,7 +13,8 @@ use Rattle.one_bit.specs.Sound.{Numbered, Sound}
 use Rattle.one_bit.specs.Meaning.{stages, begun, ended, one_bit_meaning}
 use Rattle.one_bit.specs.Stations.{length_stages, asked_at, numbered}
 use Rattle.one_bit.specs.Put.{put, place_here, place_other}
-use Rattle.one_bit.specs.Next.{Climbs, climbs_trying, climbs_inside, next_climbs, next_nearer}
+use Rattle.one_bit.specs.Steps.{steps}
+use Rattle.one_bit.proofs.Next.{Climbs, climbs_trying, climbs_inside, next_climbs, next_nearer}
 use Rattle.one_bit.specs.Turn.{after, turned_put, turned_sound, alone_after}
 use Rattle.one_bit.specs.Ends.{begun_put, begun_sound, ended_put, ended_sound}
 use Rattle.one_bit.specs.Kept.{turned_kept, ended_kept}
@@ -59,9 +60,9 @@ climb l i a m =
     let s = a.sound in
     let h = a.here in
     let p = place_of l i in
-    let e = turned_put l s i h in
-    let f = alone_after l s i h a.others in (
-      rw e (alone_put l s i h (after l i) (turned_sound l s i h) a.others (rw f (next_climbs l.n i s.most h.0 h.1 p a.climbs))),
+    let e = turned_put steps l s i h in
+    let f = alone_after steps l s i h a.others in (
+      rw e (alone_put l s i h (after l i) (turned_sound steps l s i h) a.others (rw f (next_climbs l.n i s.most h.0 h.1 p a.climbs))),
       rw (e, place_here l s i h (after l i), f) (next_nearer l.n i s.most h.0 h.1 p (s.ranged i h) a.climbs m),
     )
 
@@ -87,8 +88,8 @@ leaving (suc k) l i s a m = absurd (omega arith)
 
 rested : (l : OneBit) (i : ℕ) → Sound l → asked (stages l) i ≡ Some Leaving → asked (stages (turned l i)) i ≡ Some Rest
 rested l i s a =
-    let e = lowered_put l i s a in
-    rw e (asked-put l s i (numbered l s i Leaving a) Idle (rw e at (turned_kept l i s).sound))
+    let e = lowered_put steps l i s a in
+    rw e (asked-put l s i (numbered l s i Leaving a) Idle (rw e at (turned_kept steps l i s).sound))
 
 pub exactly : Exactly one_bit_meaning (λ n. n) (λ _. 1)
 exactly = record {

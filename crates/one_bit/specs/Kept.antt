@@ -17,7 +17,8 @@ use Rattle.one_bit.specs.Sound.{Numbered, Sound}
 use Rattle.one_bit.specs.Meaning.{stages, begun, ended, one_bit_meaning}
 use Rattle.one_bit.specs.Stations.{moving_access, numbered, stage_there, place_out, in_or_out}
 use Rattle.one_bit.specs.Put.{put, place_here, place_other}
-use Rattle.one_bit.specs.Next.{at_leaving, next_falls}
+use Rattle.one_bit.specs.Next.{at_leaving}
+use Rattle.one_bit.specs.Steps.{EveryStep}
 use Rattle.one_bit.specs.Turn.{after, turned_put, turned_sound, alone_after}
 use Rattle.one_bit.specs.Ends.{begun_put, begun_sound, ended_put, ended_sound}
 
@@ -78,11 +79,12 @@ module _ (l : OneBit) (i : ℕ) (s : Sound l) where
           let e = stage_there l s i Inside a in
           rw (ended_put l s i a) (kept_put l s i (numbered l s i Inside a) Lower (ended_sound l s i a) (record { trying = λ t o u. grind arith; leaving = λ t u. grind arith }))
 
+module _ (steps : EveryStep) (l : OneBit) (i : ℕ) (s : Sound l) where
   pub turned_kept : Kept one_bit_meaning l (turned l i)
   turned_kept = ⊎_elim (λ w. moves w.0) (λ o. kept_same l (turned l i) s (step_same l i (place_of l i) (ap (λ p. is_some (access_at i p)) (place_out l i o)))) (in_or_out l i)
     where
       moves : Numbered l i → Kept one_bit_meaning l (turned l i)
-      moves h = rw (turned_put l s i h) (kept_put l s i h (after l i) (turned_sound l s i h) (record {
-        trying = λ t o u. rw (alone_after l s i h o) (le_of_lt (next_falls l.n i s.most h.0 h.1 (place_of l i) (s.ranged i h) t));
+      moves h = rw (turned_put steps l s i h) (kept_put l s i h (after l i) (turned_sound steps l s i h) (record {
+        trying = λ t o u. rw (alone_after steps l s i h o) (le_of_lt ((steps l i s.most h.0 h.1 (place_of l i)).falls (s.ranged i h) t));
         leaving = λ t u. rw (at_leaving (place_of l i) t) (omega arith);
       }))

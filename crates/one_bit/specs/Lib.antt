@@ -8,6 +8,7 @@ pub mod Law
 pub mod Stations
 pub mod Put
 pub mod Next
+pub mod Steps
 pub mod Turn
 pub mod Ends
 pub mod Kept

@@ -8,6 +8,7 @@ ghost use Rattle.one_bit.specs.Places.{access_at};
 ghost use Rattle.one_bit.specs.Turns.{lower_after, higher_after, made_for};
 ghost use Rattle.one_bit.specs.Meaning.{one_bit_meaning};
 ghost use Rattle.one_bit.specs.Law;
+ghost use Rattle.one_bit.specs.Steps.{steps};
 
 use crate::place::Place;
 use crate::register::Register;
@@ -142,7 +143,7 @@ impl OneBit {
 impl Lock for OneBit {
     ghost meaning = { one_bit_meaning };
 
-    ghost lawful = { Law.lawful };
+    ghost lawful = { Law.lawful steps };
 
     fn stage(&self, station: usize) -> Option<Stage> {
         if station == 0 || station > self.n {
