@@ -1,5 +1,5 @@
 -- The legal lines of a sheet, and the wrong column of one that is not legal.
-use Rattle.std.specs.Prelude.{◌≡◌, ℕ, ◌+◌, ◌^◌, ◌<◌, ◌≤◌, List, [], ◌∷◌, ◌++◌, length, take, ℤ, pos, negsuc, Some, None, Ok, Err, decimal, Option, Result, ◌≢◌}
+use Rattle.std.specs.Prelude.{◌≡◌, ℕ, ◌+◌, ◌^◌, ◌<◌, ◌≤◌, List, length, take, ℤ, pos, negsuc, Some, None, Ok, Err, decimal, Option, Result, ◌≢◌}
 use Rattle.std.specs.Fmt.{signed_decimal}
 use Rattle.feed.specs.declared.job.Job.{Job}
 use Rattle.feed.specs.declared.job.Job.TheVariants.{Trim, Undo, Sign}

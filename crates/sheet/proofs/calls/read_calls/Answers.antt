@@ -10,7 +10,7 @@ returns-in-Err c =
 
 pub loop-at-preserved : goal.loop-at-preserved
 loop-at-preserved c =
-    subst (λ xs. Reading c.args.text.now xs (c.loop-at.at + 13)) (sym c.in_ok-push.ensures.items)
+    subst (λ xs. Reading c.args.text.now xs (c.loop-at.at + 13)) (sym c.in_ok-push-in-Ok.ensures.items)
     (reading_more c.args.text.now (vec_items c.loop-at.calls) c.loop-at.at c.loop-at.invariant c.in-Ok.call c.in-Ok.ensures)
 
 pub returns : goal.returns

@@ -3,11 +3,11 @@ use Rattle.std.proofs.lemmas.Result.{err_from_is_err_and}
 use Rattle.sheet.proofs.SetUpLines.{no_set_up, set_up_wrong, set_up_right}
 use Rattle.sheet.proofs.read.read_set_up.Goals as goal
 
-pub returns-in-default : goal.returns-in-default
-returns-in-default c = no_set_up c.args.text.now (λ some. let short : length c.args.text.now < 1 = search rules in absurd (omega arith))
+pub returns-in_default : goal.returns-in_default
+returns-in_default c = no_set_up c.args.text.now (λ some. let short : length c.args.text.now < 1 = search rules in absurd (omega arith))
 
-pub returns-in-default-kind-of : goal.returns-in-default-kind-of
-returns-in-default-kind-of c = no_set_up c.args.text.now (λ some. c.in-default-kind-of.ensures)
+pub returns-in_default-kind_of : goal.returns-in_default-kind_of
+returns-in_default-kind_of c = no_set_up c.args.text.now (λ some. c.in_default-kind_of.ensures)
 
 pub returns-in_err-stations : goal.returns-in_err-stations
 returns-in_err-stations c =
