@@ -1,25 +1,62 @@
 -- A station that is alone climbs: each turn is one fewer to come. To leave, it goes from place to place.
-use Rattle.std.proofs.Common.{◌≡◌, ℕ, zero, suc, ◌+◌, ◌<◌, ◌≤◌, length, Some, sym, ap, ◌∙◌, arith}
+use Rattle.std.proofs.Common.{◌≡◌, ℕ, zero, suc, ◌+◌, ◌<◌, ◌≤◌, false, ◌⊎◌, length, Some, ◌≢◌, sym, ap, ◌∙◌, arith}
+use Rattle.std.proofs.lemmas.Bool.Decides.{nat_tests}
 use Rattle.lock.specs.declared.stage.Stage.TheVariants.{Rest, Trying, Inside, Leaving}
 use Rattle.lock.specs.Stages.{Station, asked, OthersRest, AllRest}
 use Rattle.lock.specs.Meaning.{turns, Exactly}
 use Rattle.fast.specs.declared.place.Place.{Place}
-use Rattle.fast.specs.declared.place.Place.TheVariants.{Idle, Raise, Release, Clear}
+use Rattle.fast.specs.declared.place.Place.TheVariants.{Idle, Raise, Announce, Glance, Retreat, Await, Claim, Confirm, Lower, Scan, Recheck, Retry, Within, Release, Clear}
 use Rattle.fast.specs.declared.Fast.{Fast}
-use Rattle.fast.specs.Places.{stage_at, access_at}
-use Rattle.fast.specs.Registers.{place_of}
+use Rattle.fast.specs.Places.{stage_at, access_at, to_come}
+use Rattle.fast.specs.Registers.{place_of, flag_of}
 use Rattle.fast.specs.Turns.{turned}
-use Rattle.fast.specs.Sound.{Numbered, Sound}
+use Rattle.fast.specs.Sound.{Numbered, Own, Sound}
 use Rattle.fast.specs.Meaning.{stages, begun, ended, left, fast_meaning}
 use Rattle.fast.specs.Stations.{length_stages, asked_at, numbered}
 use Rattle.fast.specs.Moves.{Outcome, put, going, outcome, Move}
 use Rattle.fast.specs.Put.{place_here, place_there}
-use Rattle.fast.specs.Ways.{Climbs, climbs_trying, climbs_inside}
+use Rattle.fast.specs.Steps.{steps}
 use Rattle.fast.specs.Soundness.{put_sound}
 use Rattle.fast.specs.Calls.{after, turned_put, turned_move, begun_put, begun_move, ended_put, ended_move}
-use Rattle.fast.specs.Alone.{lone_climbs}
+use Rattle.fast.specs.Alone.{y_free, others_lowered}
 
 -- on the way in
+
+-- the way in of a station that finds Y free and X its own, and inside
+abbrev Climbs : (x i : ℕ) → Place → Type 0
+Climbs x i Idle = ⊥
+Climbs x i Raise = Unit {0}
+Climbs x i Announce = Unit {0}
+Climbs x i Glance = x ≡ i
+Climbs x i Retreat = ⊥
+Climbs x i Await = ⊥
+Climbs x i Claim = x ≡ i
+Climbs x i Confirm = x ≡ i
+Climbs x i Lower = ⊥
+Climbs x i (Scan j) = ⊥
+Climbs x i Recheck = ⊥
+Climbs x i Retry = ⊥
+Climbs x i Within = Unit {0}
+Climbs x i Release = ⊥
+Climbs x i Clear = ⊥
+
+-- with turns to come it is trying, and with none inside
+climbs_trying : (n x y i : ℕ) (p : Place) → Climbs x i p → 0 < to_come n x y i p → stage_at p ≡ Trying
+climbs_trying n x y i p c t = grind (arith, nat_tests)
+
+climbs_inside : (n x y i : ℕ) (p : Place) → Climbs x i p → to_come n x y i p ≡ 0 → stage_at p ≡ Inside
+climbs_inside n x y i p c t = grind (arith, nat_tests)
+
+-- Y is free or the station's own, and every other flag is lowered
+module _ (l : Fast) (i : ℕ) (p : Place) (w : Outcome) (m : Move l i p w) (own : Own l.n l.x l.y i (flag_of l i) p) (free : (l.y ≡ 0) ⊎ (l.y ≡ i))
+    (lowered : (j : ℕ) → 1 ≤ j → j ≤ l.n → (j ≢ i) → flag_of l j ≡ false) where
+  alone_climbs : stage_at p ≡ Trying → Climbs l.x i p → Climbs w.x i w.place × (to_come l.n w.x w.y i w.place + 1 ≡ to_come l.n l.x l.y i p)
+  alone_climbs t c = grind (arith, nat_tests)
+
+module _ (l : Fast) (s : Sound l) (i : ℕ) (o : OthersRest (stages l) i) (h : Numbered l i) (w : Outcome) (m : Move l i (place_of l i) w)
+    (t : stage_at (place_of l i) ≡ Trying) where
+  lone_climbs : Climbs l.x i (place_of l i) → Climbs w.x i (place_of (put l i w) i) × (left (put l i w) i + 1 ≡ left l i)
+  lone_climbs c = rw (place_here l s i h w) (alone_climbs l i (place_of l i) w m (s.own i h) (y_free l s i o) (others_lowered l s i o) t c)
 
 record Alone (l : Fast) (i : ℕ) : Type 0 where
   sound : Sound l
@@ -41,13 +78,13 @@ alone_inside l i a e = asked_alone l i a ∙ ap Some (climbs_inside l.n l.x l.y 
 module _ (l : Fast) (s : Sound l) (i : ℕ) (h : Numbered l i) (w : Outcome) (m : Move l i (place_of l i) w) where
   others_put : OthersRest (stages l) i → OthersRest (stages (put l i w)) i
   others_put o j t other =
-      let s' = put_sound l s i h w m in
+      let s' = put_sound steps l s i h w m in
       let v : Numbered l j = (t.0, rw (length_stages (put l i w) s') at t.1) in
       let most : j ≤ length (stages l) = rw (length_stages l s) v.1 in
       asked_at (put l i w) s' j v ∙ ap (λ q. Some (stage_at q)) (place_there l s i h w j v other) ∙ sym (asked_at l s j v) ∙ o j (t.0, most) other
 
   alone_put : OthersRest (stages l) i → Climbs w.x i (place_of (put l i w) i) → Alone (put l i w) i
-  alone_put o c = record { sound = put_sound l s i h w m; here = h; others = others_put o; climbs = c }
+  alone_put o c = record { sound = put_sound steps l s i h w m; here = h; others = others_put o; climbs = c }
 
 -- one turn, and many
 climb : (l : Fast) (i : ℕ) → Alone l i → 0 < left l i → Alone (turned l i) i × (left (turned l i) i + 1 ≡ left l i)
@@ -91,7 +128,7 @@ turned_there l i p a =
     let s = a.sound in
     let h = a.here in
     rw (turned_put l i h) (record {
-      sound = put_sound l s i h (after l i) (turned_move l i);
+      sound = put_sound steps l s i h (after l i) (turned_move l i);
       here = h;
       place = place_here l s i h (after l i) ∙ ap (λ q. (outcome l i q (access_at i q)).place) a.place;
     })
@@ -101,7 +138,7 @@ module _ (l : Fast) (i : ℕ) (s : Sound l) (a : asked (stages l) i ≡ Some Ins
   releases =
       let h = numbered l s i Inside a in
       let w = going l i Release in
-      rw (ended_put l s i a) (record { sound = put_sound l s i h w (ended_move l s i a); here = h; place = place_here l s i h w })
+      rw (ended_put l s i a) (record { sound = put_sound steps l s i h w (ended_move l s i a); here = h; place = place_here l s i h w })
 
   clears : Stands (turned (ended l i) i) i Clear
   clears = turned_there (ended l i) i Release releases

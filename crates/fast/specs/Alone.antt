@@ -1,5 +1,5 @@
 -- While all others rest, a station finds Y free or its own, and every other flag lowered, so each turn brings it nearer.
-use Rattle.std.specs.Prelude.{◌≡◌, ℕ, ◌+◌, ◌<◌, ◌≤◌, false, ◌⊎◌, length, ◌≢◌, refl}
+use Rattle.std.specs.Prelude.{◌≡◌, ℕ, ◌<◌, ◌≤◌, false, ◌⊎◌, length, ◌≢◌, refl}
 use Rattle.std.proofs.Common.{inl, inr, ⊎_elim, arith}
 use Rattle.std.proofs.lemmas.Bool.{cases_eq}
 use Rattle.lock.specs.declared.stage.Stage.TheVariants.{Rest, Trying}
@@ -13,7 +13,7 @@ use Rattle.fast.specs.Meaning.{stages, left}
 use Rattle.fast.specs.Stations.{length_stages, stage_there}
 use Rattle.fast.specs.Moves.{Outcome, put, Move}
 use Rattle.fast.specs.Put.{place_here}
-use Rattle.fast.specs.Ways.{at_rest, Climbs, alone_falls, alone_climbs}
+use Rattle.fast.specs.Ways.{at_rest, EveryWay}
 
 module _ (l : Fast) (s : Sound l) (i : ℕ) (o : OthersRest (stages l) i) where
   pub other_idle : (k : ℕ) → Numbered l k → (k ≢ i) → place_of l k ≡ Idle
@@ -31,12 +31,9 @@ module _ (l : Fast) (s : Sound l) (i : ℕ) (o : OthersRest (stages l) i) where
           let f = (s.own l.y v).owner refl in
           grind arith
 
-  others_lowered : (j : ℕ) → 1 ≤ j → j ≤ l.n → (j ≢ i) → flag_of l j ≡ false
+  pub others_lowered : (j : ℕ) → 1 ≤ j → j ≤ l.n → (j ≢ i) → flag_of l j ≡ false
   others_lowered j a b other = let e = other_idle j (a, b) other in (s.own j (a, b)).lowered (grind arith)
 
-  module _ (h : Numbered l i) (w : Outcome) (m : Move l i (place_of l i) w) (t : stage_at (place_of l i) ≡ Trying) where
+  module _ (ways : EveryWay) (h : Numbered l i) (w : Outcome) (m : Move l i (place_of l i) w) (t : stage_at (place_of l i) ≡ Trying) where
     pub lone_nearer : left (put l i w) i < left l i
-    lone_nearer = rw (place_here l s i h w) (alone_falls l i (place_of l i) w m (s.own i h) y_free others_lowered t)
-
-    pub lone_climbs : Climbs l.x i (place_of l i) → Climbs w.x i (place_of (put l i w) i) × (left (put l i w) i + 1 ≡ left l i)
-    lone_climbs c = rw (place_here l s i h w) (alone_climbs l i (place_of l i) w m (s.own i h) y_free others_lowered t c)
+    lone_nearer = rw (place_here l s i h w) ((ways l i (place_of l i) w m).alone_falls (s.own i h) y_free others_lowered t)

@@ -16,7 +16,8 @@ use Rattle.fast.specs.Meaning.{stages, begun, ended, left, fast_meaning}
 use Rattle.fast.specs.Stations.{numbered, stage_there, in_or_out}
 use Rattle.fast.specs.Moves.{Outcome, put, going, Move}
 use Rattle.fast.specs.Put.{place_here, place_there}
-use Rattle.fast.specs.Ways.{leaving_nearer, resting_writes_not}
+use Rattle.fast.specs.Steps.{EveryStep}
+use Rattle.fast.specs.Ways.{EveryWay}
 use Rattle.fast.specs.Soundness.{put_sound}
 use Rattle.fast.specs.Calls.{after, turned_put, turned_move, turned_outside, begun_put, begun_move, begun_same, ended_put, ended_move, ended_same}
 use Rattle.fast.specs.Alone.{other_idle, lone_nearer}
@@ -25,16 +26,16 @@ kept_same : (l l' : Fast) → Sound l → l' ≡ l → Kept fast_meaning l l'
 kept_same l l' s e = rw e (record { sound = s; lone = refl; leave = refl; trying = λ i a o b p. omega arith; leaving = λ i a b. omega arith })
 
 -- a move raises no count of turns to come
-module _ (l : Fast) (s : Sound l) (i : ℕ) (h : Numbered l i) (w : Outcome) (m : Move l i (place_of l i) w) where
+module _ (steps : EveryStep) (ways : EveryWay) (l : Fast) (s : Sound l) (i : ℕ) (h : Numbered l i) (w : Outcome) (m : Move l i (place_of l i) w) where
   pub leaving_here : stage_at (place_of l i) ≡ Leaving → left (put l i w) i + 1 ≡ left l i
-  leaving_here t = rw (place_here l s i h w) (leaving_nearer l i (place_of l i) w m t)
+  leaving_here t = rw (place_here l s i h w) ((ways l i (place_of l i) w m).leaving_nearer t)
 
   -- while another station alone tries, this one rests before and after, and has written nothing
   trying_there : (k : ℕ) → Numbered l k → (k ≢ i) → OthersRest (stages l) k → OthersRest (stages (put l i w)) k → left (put l i w) k ≤ left l k
   trying_there k v other o o' =
       let was = ap stage_at (other_idle l s k o i h (λ e. other (sym e))) in
-      let is = ap stage_at (sym (place_here l s i h w) ∙ other_idle (put l i w) (put_sound l s i h w m) k o' i h (λ e. other (sym e))) in
-      let same = resting_writes_not l i (place_of l i) w m was is in
+      let is = ap stage_at (sym (place_here l s i h w) ∙ other_idle (put l i w) (put_sound steps l s i h w m) k o' i h (λ e. other (sym e))) in
+      let same = (ways l i (place_of l i) w m).resting_writes_not was is in
       rw (place_there l s i h w k v other, same.0, same.1) (omega arith)
 
   leaving_there : (k : ℕ) → Numbered l k → (k ≢ i) → stage_at (place_of l k) ≡ Leaving → left (put l i w) k ≤ left l k
@@ -42,11 +43,11 @@ module _ (l : Fast) (s : Sound l) (i : ℕ) (h : Numbered l i) (w : Outcome) (m 
 
   kept_put : Kept fast_meaning l (put l i w)
   kept_put = record {
-    sound = put_sound l s i h w m;
+    sound = put_sound steps l s i h w m;
     lone = refl;
     leave = refl;
     trying = λ k a o b p. ⊎_elim
-        (λ (e : k ≡ i). rw e (le_of_lt (lone_nearer l s i (subst (OthersRest (stages l)) e o) h w m (stage_there l s i Trying (rw e at a)))))
+        (λ (e : k ≡ i). rw e (le_of_lt (lone_nearer l s i (subst (OthersRest (stages l)) e o) ways h w m (stage_there l s i Trying (rw e at a)))))
         (λ other. trying_there k (numbered l s k Trying a) other o p)
         (cases_eq k i);
     leaving = λ k a b. ⊎_elim
@@ -55,21 +56,21 @@ module _ (l : Fast) (s : Sound l) (i : ℕ) (h : Numbered l i) (w : Outcome) (m 
         (cases_eq k i);
   }
 
-module _ (l : Fast) (i : ℕ) (s : Sound l) where
+module _ (steps : EveryStep) (ways : EveryWay) (l : Fast) (i : ℕ) (s : Sound l) where
   pub begun_kept : Kept fast_meaning l (begun l i)
   begun_kept = ⊎_elim (λ r. moves (resting-asked (stages l) i r)) (λ r. kept_same l (begun l i) s (begun_same l i r)) (cases_Bool (is_resting (stages l) i))
     where
       moves : asked (stages l) i ≡ Some Rest → Kept fast_meaning l (begun l i)
-      moves a = rw (begun_put l s i a) (kept_put l s i (numbered l s i Rest a) (going l i Raise) (begun_move l s i a))
+      moves a = rw (begun_put l s i a) (kept_put steps ways l s i (numbered l s i Rest a) (going l i Raise) (begun_move l s i a))
 
   pub ended_kept : Kept fast_meaning l (ended l i)
   ended_kept = ⊎_elim (λ r. moves (inside-asked (stages l) i r)) (λ r. kept_same l (ended l i) s (ended_same l i r)) (cases_Bool (is_inside (stages l) i))
     where
       moves : asked (stages l) i ≡ Some Inside → Kept fast_meaning l (ended l i)
-      moves a = rw (ended_put l s i a) (kept_put l s i (numbered l s i Inside a) (going l i Release) (ended_move l s i a))
+      moves a = rw (ended_put l s i a) (kept_put steps ways l s i (numbered l s i Inside a) (going l i Release) (ended_move l s i a))
 
   pub turned_kept : Kept fast_meaning l (turned l i)
   turned_kept = ⊎_elim (λ v. moves v.0) (λ o. kept_same l (turned l i) s (turned_outside l i o)) (in_or_out l i)
     where
       moves : Numbered l i → Kept fast_meaning l (turned l i)
-      moves h = rw (turned_put l i h) (kept_put l s i h (after l i) (turned_move l i))
+      moves h = rw (turned_put l i h) (kept_put steps ways l s i h (after l i) (turned_move l i))

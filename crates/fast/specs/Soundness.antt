@@ -7,9 +7,9 @@ use Rattle.fast.specs.Registers.{place_of, flag_of}
 use Rattle.fast.specs.Sound.{Numbered, Own, Pair, Sound}
 use Rattle.fast.specs.Moves.{Outcome, put, Move}
 use Rattle.fast.specs.Put.{place_here, flag_here, place_there, flag_there}
-use Rattle.fast.specs.Steps.{y_named, own_moved, own_kept, pair_from, pair_to, pair_kept}
+use Rattle.fast.specs.Steps.{EveryStep}
 
-module _ (l : Fast) (s : Sound l) (i : ℕ) (h : Numbered l i) (w : Outcome) (m : Move l i (place_of l i) w) where
+module _ (steps : EveryStep) (l : Fast) (s : Sound l) (i : ℕ) (h : Numbered l i) (w : Outcome) (m : Move l i (place_of l i) w) where
   abbrev OwnAfter : ℕ → Type 0
   OwnAfter k = Own l.n w.x w.y k (flag_of (put l i w) k) (place_of (put l i w) k)
 
@@ -17,31 +17,31 @@ module _ (l : Fast) (s : Sound l) (i : ℕ) (h : Numbered l i) (w : Outcome) (m 
   PairAfter k j = Pair w.x w.y k j (flag_of (put l i w) k) (place_of (put l i w) k) (place_of (put l i w) j)
 
   own_here : OwnAfter i
-  own_here = rw (flag_here l s i h w, place_here l s i h w) (own_moved l i (place_of l i) w m h.0 s.least (s.own i h))
+  own_here = rw (flag_here l s i h w, place_here l s i h w) ((steps l i (place_of l i) w m).own_moved h.0 s.least (s.own i h))
 
   module _ (k : ℕ) (v : Numbered l k) (other : k ≡ i → ⊥) where
     own_there : OwnAfter k
     own_there =
         rw (flag_there l s i h w k v other, place_there l s i h w k v other)
-        (own_kept l i (place_of l i) w m k h.0 v.0 v.1 other (flag_of l k) (place_of l k) refl
+        ((steps l i (place_of l i) w m).own_kept k h.0 v.0 v.1 other (flag_of l k) (place_of l k) refl
         (s.own i h) (s.own k v) (s.pair i k h v (λ e. other (sym e))) (s.pair k i v h other))
 
     from_here : PairAfter i k
     from_here =
         rw (flag_here l s i h w, place_here l s i h w, place_there l s i h w k v other)
-        (pair_from l i (place_of l i) w m k h.0 v.0 v.1 other (flag_of l k) (place_of l k) refl
+        ((steps l i (place_of l i) w m).pair_from k h.0 v.0 v.1 other (flag_of l k) (place_of l k) refl
         (s.own i h) (s.own k v) (s.pair i k h v (λ e. other (sym e))) (s.pair k i v h other))
 
     to_here : PairAfter k i
     to_here =
         rw (flag_there l s i h w k v other, place_there l s i h w k v other, place_here l s i h w)
-        (pair_to l i (place_of l i) w m k h.0 v.0 v.1 other (flag_of l k) (place_of l k) refl
+        ((steps l i (place_of l i) w m).pair_to k h.0 v.0 v.1 other (flag_of l k) (place_of l k) refl
         (s.own i h) (s.own k v) (s.pair i k h v (λ e. other (sym e))) (s.pair k i v h other))
 
     elsewhere : (j : ℕ) → Numbered l j → (j ≢ i) → (k ≢ j) → PairAfter k j
     elsewhere j u away two =
         rw (flag_there l s i h w k v other, place_there l s i h w k v other, place_there l s i h w j u away)
-        (pair_kept l i (place_of l i) w m k h.0 v.0 v.1 other (flag_of l k) (place_of l k) j (place_of l j) away (s.pair k j v u two))
+        ((steps l i (place_of l i) w m).pair_kept k h.0 v.0 v.1 other (flag_of l k) (place_of l k) j (place_of l j) away (s.pair k j v u two))
 
   own_after : (k : ℕ) → Numbered l k → OwnAfter k
   own_after k v = ⊎_elim (λ e. rw e own_here) (own_there k v) (cases_eq k i)
@@ -59,7 +59,7 @@ module _ (l : Fast) (s : Sound l) (i : ℕ) (h : Numbered l i) (w : Outcome) (m 
     most = s.most;
     places_fit = simp length-set s.places_fit;
     flags_fit = simp length-set s.flags_fit;
-    y_named = y_named l i (place_of l i) w m h.1 s.y_named;
+    y_named = (steps l i (place_of l i) w m).y_named h.1 s.y_named;
     own = own_after;
     pair = pair_after;
   }

@@ -9,24 +9,28 @@ use Rattle.fast.specs.Registers.{flag_of}
 use Rattle.fast.specs.Sound.{Own, Pair}
 use Rattle.fast.specs.Moves.{Outcome, Move}
 
-module _ (l : Fast) (i : ℕ) (p : Place) (w : Outcome) (m : Move l i p w) where
+pub record Steps (l : Fast) (i : ℕ) (p : Place) (w : Outcome) : Type 0 where
   pub y_named : i ≤ l.n → l.y ≤ l.n → w.y ≤ l.n
-  y_named h g = grind (arith, nat_tests)
-
   pub own_moved : 1 ≤ i → 1 ≤ l.n → Own l.n l.x l.y i (flag_of l i) p → Own l.n w.x w.y i w.flag w.place
-  own_moved h g o = grind (arith, nat_tests)
+  pub pair_kept : (k : ℕ) → 1 ≤ i → 1 ≤ k → k ≤ l.n → (k ≢ i) → (f : Bool) (q : Place) (j : ℕ) (r : Place) → (j ≢ i) →
+      Pair l.x l.y k j f q r → Pair w.x w.y k j f q r
+  pub own_kept : (k : ℕ) → 1 ≤ i → 1 ≤ k → k ≤ l.n → (k ≢ i) → (f : Bool) (q : Place) → flag_of l k ≡ f → Own l.n l.x l.y i (flag_of l i) p →
+      Own l.n l.x l.y k f q → Pair l.x l.y i k (flag_of l i) p q → Pair l.x l.y k i f q p → Own l.n w.x w.y k f q
+  pub pair_from : (k : ℕ) → 1 ≤ i → 1 ≤ k → k ≤ l.n → (k ≢ i) → (f : Bool) (q : Place) → flag_of l k ≡ f → Own l.n l.x l.y i (flag_of l i) p →
+      Own l.n l.x l.y k f q → Pair l.x l.y i k (flag_of l i) p q → Pair l.x l.y k i f q p → Pair w.x w.y i k w.flag w.place q
+  pub pair_to : (k : ℕ) → 1 ≤ i → 1 ≤ k → k ≤ l.n → (k ≢ i) → (f : Bool) (q : Place) → flag_of l k ≡ f → Own l.n l.x l.y i (flag_of l i) p →
+      Own l.n l.x l.y k f q → Pair l.x l.y i k (flag_of l i) p q → Pair l.x l.y k i f q p → Pair w.x w.y k i f q w.place
 
-  module _ (k : ℕ) (h : 1 ≤ i) (g : 1 ≤ k) (top : k ≤ l.n) (ne : k ≡ i → ⊥) (f : Bool) (q : Place) where
-    pub pair_kept : (j : ℕ) (r : Place) → (j ≢ i) → Pair l.x l.y k j f q r → Pair w.x w.y k j f q r
-    pair_kept j r nj u = grind (arith, nat_tests)
+-- the premise of what follows from it, so that nothing but the law itself rests on the proof
+abbrev pub EveryStep : Type 0
+EveryStep = (l : Fast) (i : ℕ) (p : Place) (w : Outcome) → Move l i p w → Steps l i p w
 
-    module _ (fl : flag_of l k ≡ f) (mine : Own l.n l.x l.y i (flag_of l i) p) (theirs : Own l.n l.x l.y k f q)
-        (fore : Pair l.x l.y i k (flag_of l i) p q) (back : Pair l.x l.y k i f q p) where
-      pub own_kept : Own l.n w.x w.y k f q
-      own_kept = grind (arith, nat_tests)
-
-      pub pair_from : Pair w.x w.y i k w.flag w.place q
-      pair_from = grind (arith, nat_tests)
-
-      pub pair_to : Pair w.x w.y k i f q w.place
-      pair_to = grind (arith, nat_tests)
+pub steps : EveryStep
+steps l i p w m = record {
+  y_named = λ h g. grind (arith, nat_tests);
+  own_moved = λ h g o. grind (arith, nat_tests);
+  pair_kept = λ k h g top ne f q j r nj u. grind (arith, nat_tests);
+  own_kept = λ k h g top ne f q fl mine theirs fore back. grind (arith, nat_tests);
+  pair_from = λ k h g top ne f q fl mine theirs fore back. grind (arith, nat_tests);
+  pair_to = λ k h g top ne f q fl mine theirs fore back. grind (arith, nat_tests);
+}

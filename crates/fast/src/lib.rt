@@ -9,6 +9,8 @@ ghost use Rattle.fast.specs.Places.{access_at};
 ghost use Rattle.fast.specs.Turns.{scan_after, made_for};
 ghost use Rattle.fast.specs.Meaning.{fast_meaning};
 ghost use Rattle.fast.specs.Law;
+ghost use Rattle.fast.specs.Steps.{steps};
+ghost use Rattle.fast.specs.Ways.{ways};
 
 use crate::place::Place;
 use crate::register::Register;
@@ -149,7 +151,7 @@ impl Fast {
 impl Lock for Fast {
     ghost meaning = { fast_meaning };
 
-    ghost lawful = { Law.lawful };
+    ghost lawful = { Law.lawful steps ways };
 
     fn stage(&self, station: usize) -> Option<Stage> {
         if station == 0 || station > self.n {
