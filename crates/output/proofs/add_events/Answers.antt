@@ -10,7 +10,7 @@ use Rattle.output.proofs.add_events.Goals as goal
 pub loop-event-preserved : goal.loop-event-preserved
 loop-event-preserved c =
     line_more c.args.events.now c.loop-event.event-index (Ordered 0 (Trim (pos 0)) (Ok tt)) c.loop-event-test.true
-    (vec_items c.args.out.now) (vec_items c.loop-event.out) (vec_items c.add-event.new.out) c.in_ok-add-event.ensures c.loop-event.invariant
+    (vec_items c.args.out.now) (vec_items c.loop-event.out) (vec_items c.add_event.new.out) c.in_ok-add_event.ensures c.loop-event.invariant
 
 pub returns : goal.returns
 returns c = c.loop-event.invariant ∙ ap (λ es. vec_items c.args.out.now ++ flat_map event_line es) (take_all c.loop-event.event-index c.args.events.now c.loop-event-test.false)

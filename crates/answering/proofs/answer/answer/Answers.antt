@@ -22,5 +22,5 @@ returns-in-Ok c =
 pub returns-in-Err : goal.returns-in-Err
 returns-in-Err c =
     IfOk-weaker c.from_slice-in-Err.result _ _
-    (λ out e. wrong_first (omega arith) c.in-Err.column c.in-Err.ensures (e.0 ∙ c.to-line-in-Err.ensures))
-    c.from_slice-in-Err.ensures.made
+    (λ out e. wrong_first (omega arith) c.in-Err.column c.in-Err.ensures (e ∙ c.to_line-in-Err.ensures))
+    c.from_slice-in-Err.ensures.items
