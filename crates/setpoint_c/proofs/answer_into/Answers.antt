@@ -6,4 +6,4 @@ use Rattle.setpoint_c.proofs.answer_into.Goals as goal
 pub returns-in-Ok : goal.returns-in-Ok
 returns-in-Ok c =
     answered (vec_items c.in-Ok.output) c.in-Ok.ensures
-    (subst (λ output. Placed c.place.result output c.args.buffer.now c.place.new.buffer c.place.new.output-length) c.deref.ensures.value c.place.ensures)
+    (subst (λ output. Placed c.place.result output c.args.buffer.now c.place.new.buffer c.place.new.output_length) c.deref.ensures.value c.place.ensures)
