@@ -73,13 +73,8 @@ impl Content {
     }
 }
 
-// Reads a field of N columns, the first of which is the column `first` of its line. With the width in its type a field's
-// loop is laid out column by column.
-pub(crate) fn read_field<const N: usize>(
-    form: Form,
-    first: usize,
-    field: &[u8; N],
-) -> Result<Content, usize>
+// Reads a field whose first column is the column `first` of its line.
+pub(crate) fn read_field(form: Form, first: usize, field: &[u8]) -> Result<Content, usize>
     requires on_line { first ≤ 13 }
     requires some { 1 ≤ length field.now }
     requires few { length field.now ≤ 8 }

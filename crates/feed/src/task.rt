@@ -1,6 +1,8 @@
-ghost use Rattle.std.specs.Prelude.{◌≡◌};
+ghost use Rattle.std.specs.Prelude.{◌≡◌, ◌*ℤ◌};
+ghost use Rattle.std.specs.Int.{saturate_to_bits};
+ghost use Rattle.feed.specs.Job.{thousandth};
 ghost use Rattle.feed.specs.Laws.{ComputedExactly};
-ghost use Rattle.feed.specs.Task.{begun, access_of, computed, judged, restored, undone, progress, board_after, left_to_do};
+ghost use Rattle.feed.specs.Task.{begun, access_of, judged, restored, undone, progress, board_after, left_to_do};
 
 use crate::board::{Board, Register};
 use crate::job::{Job, Verdict};
@@ -68,7 +70,7 @@ pub enum Progress {
 
 // A trim's difference, the fraction dropped towards zero. The saturation of the product never acts on a rack's board.
 pub fn difference(setpoint: i32, permille: i32) -> i32
-    ensures value { result ≡ computed setpoint permille }
+    ensures value { result ≡ thousandth (saturate_to_bits 31 (setpoint *ℤ permille)) }
     ensures exact { ComputedExactly }
 {
     setpoint.saturating_mul(permille) / 1000

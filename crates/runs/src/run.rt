@@ -1,7 +1,7 @@
 ghost use Rattle.std.specs.Prelude.{◌≡◌, [], ◌∷◌, ◌++◌, IfOk, OnOk};
 ghost use Rattle.rack.specs.Calls.{fresh_rack};
 ghost use Rattle.runs.specs.declared.run.Fault.TheVariants.{Memory};
-ghost use Rattle.runs.specs.Events.{event, after, events as events-of, ran};
+ghost use Rattle.runs.specs.Events.{event, after, events as events_of, ran};
 ghost use Rattle.runs.specs.Promise.{Ready, Promise, Throughout};
 ghost use Rattle.runs.specs.Refused.{SetUpRefused};
 
@@ -64,7 +64,7 @@ pub fn run<L: Lock + Drop>(
 ) -> Result<Ran<L>, Fault>
     ensures keeps { IfOk result (λ d. Ready L.meaning lock → Promise L.meaning lock start d.events.items d.rack) }
     ensures throughout { IfOk result (λ d. Ready L.meaning lock → Throughout L.meaning lock start calls.now) }
-    ensures does { IfOk result (λ d. (d.rack ≡ ran L.meaning (fresh_rack lock start) calls.now) × (d.events.items ≡ events-of L.meaning (fresh_rack lock start) calls.now)) }
+    ensures does { IfOk result (λ d. (d.rack ≡ ran L.meaning (fresh_rack lock start) calls.now) × (d.events.items ≡ events_of L.meaning (fresh_rack lock start) calls.now)) }
     ensures refuses { SetUpRefused start result }
 {
     let mut rack = match Rack::set_up(lock, start) {
