@@ -1,7 +1,7 @@
 -- A text is read in one way: a rest that begins with no legal line ends the reading, and a line's wrong column is one number.
 use Rattle.std.proofs.Common.{◌≡◌, ℕ, ◌+◌, ◌<◌, List, [], ◌∷◌, ◌++◌, length, sym, refl, ap, ◌∙◌, subst, inl, inr, append_assoc, arith, length-append}
 use lib.Seq.{take-append-le}
-use Rattle.std.specs.List.{flat_map, AllByRecursion as All}
+use Rattle.std.specs.List.{flat_map, AllByRecursion}
 use Rattle.std.proofs.lemmas.Bool.{cases_lt}
 use Rattle.sheet.specs.declared.calls.Stop.{Stop}
 use Rattle.sheet.specs.declared.calls.Stop.TheVariants as stop
@@ -43,7 +43,7 @@ stuck at rest (stop.Wrong line column) h x more f e =
 abbrev after : List Call → List ℕ → List ℕ
 after xs rest = flat_map call_text xs ++ rest
 
-same-calls : (xs ys : List Call) (r q : List ℕ) → All FitsCall xs → All FitsCall ys → Stuck r → Stuck q → after xs r ≡ after ys q → (xs ≡ ys) × (r ≡ q)
+same-calls : (xs ys : List Call) (r q : List ℕ) → AllByRecursion FitsCall xs → AllByRecursion FitsCall ys → Stuck r → Stuck q → after xs r ≡ after ys q → (xs ≡ ys) × (r ≡ q)
 same-calls [] [] r q f g s t e = (refl, e)
 same-calls [] (y ∷ ys) r q f g s t e = absurd (s y (after ys q) g.0 (e ∙ append_assoc (call_text y) (flat_map call_text ys) q))
 same-calls (x ∷ xs) [] r q f g s t e = absurd (t x (after xs r) f.0 (sym e ∙ append_assoc (call_text x) (flat_map call_text xs) r))

@@ -1,6 +1,6 @@
 -- The loop that reads call after call: the text so far is the texts of the calls so far.
 use Rattle.std.proofs.Common.{◌≡◌, ℕ, ◌+◌, ◌-◌, ◌*◌, ◌<◌, ◌≤◌, List, [], ◌∷◌, ◌++◌, length, take, drop, Ok, Err, Result, sym, refl, ap, ◌∙◌, subst, arith, length-drop, take-add}
-use Rattle.std.specs.List.{flat_map, AllByRecursion as All}
+use Rattle.std.specs.List.{flat_map, AllByRecursion}
 use Rattle.std.proofs.lemmas.List.{take-append-drop, take_all, take_rest, flat_map_more, length_push, append-nil}
 use Rattle.std.proofs.ByRecursion.{All-push}
 use Rattle.sheet.specs.declared.calls.Stop.TheVariants as stop
@@ -10,7 +10,7 @@ use Rattle.sheet.specs.Sheet.{Later}
 use Rattle.sheet.proofs.LineLengths.{call_length, has_line}
 
 pub record Reading (text : List ℕ) (calls : List Call) (at : ℕ) : Type 0 where
-  pub fits : All FitsCall calls
+  pub fits : AllByRecursion FitsCall calls
   pub so_far : take at text ≡ flat_map call_text calls
   pub within : at ≤ length text
   pub size : at ≡ 13 * length calls
