@@ -216,7 +216,7 @@ fn sum_of(plan: &Plan) -> anyhow::Result<u64> {
 fn word(args: &mut Args) -> anyhow::Result<String> {
     match args.next() {
         Some(word) => Ok(word),
-        None => Err(USAGE.into()),
+        None => Err(anyhow!(USAGE)),
     }
 }
 
@@ -224,7 +224,7 @@ fn kind_of(word: &str) -> anyhow::Result<Kind> {
     match word {
         "fast" => Ok(Kind::Fast),
         "one-bit" => Ok(Kind::OneBit),
-        _ => Err(USAGE.into()),
+        _ => Err(anyhow!(USAGE)),
     }
 }
 
@@ -235,7 +235,7 @@ fn mode_of(word: &str, n: usize) -> anyhow::Result<(Work, Crew)> {
         "calls" => Ok((Work::Calls, Crew::all(n))),
         "turns-idle" => Ok((Work::Turns, Crew::alone(n))),
         "turns-contended" => Ok((Work::Turns, Crew::all(n))),
-        _ => Err(USAGE.into()),
+        _ => Err(anyhow!(USAGE)),
     }
 }
 
