@@ -27,8 +27,8 @@
  *     with more threads than one.
  *   - The program is one for x86-64, with the calling convention of Linux: the library is compiled for that.
  *
- * To link: 'rt staticlib setpoint_c' proves the library, writes target/staticlib/libsetpoint_c.a, and names the archive of C code that
- * has to be linked beside it. examples/run does all of that.
+ * To link: 'rt lib' in crates/setpoint_c proves the library and writes out/libsetpoint_c.a. The toolchain's archive of C code,
+ * liblibc_c.a in its folder c/, has to be linked beside it. examples/run does all of that.
  */
 #ifndef SETPOINT_RACK_H
 #define SETPOINT_RACK_H
