@@ -4,7 +4,7 @@
 ghost use Rattle.std.specs.Prelude.{◌≡◌};
 ghost use Rattle.lock.specs.Fresh.{Fresh};
 ghost use Rattle.solo.specs.Meaning.{solo_meaning, at_rest};
-ghost use Rattle.std.proofs.Common.{rules};
+ghost use Rattle.solo.specs.Law;
 
 use lock::Lock;
 use lock::stage::Stage;
@@ -30,7 +30,7 @@ impl Solo {
 impl Lock for Solo {
     ghost meaning = { solo_meaning };
 
-    ghost lawful = { Prim.search rules };
+    ghost lawful = { Law.lawful };
 
     fn stage(&self, station: usize) -> Option<Stage> {
         if station == 1 { Some(self.only) } else { None }
