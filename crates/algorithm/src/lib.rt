@@ -1,0 +1,162 @@
+// A lock by an algorithm: each station has a place, a turn makes the one access of its station's place, and where the
+// station goes from there follows from the place and the value that went over the bus.
+#![tactic(auto)]
+
+ghost use Rattle.std.specs.Prelude.{◌≡◌, ℕ, ◌≤◌, Option};
+ghost use Rattle.lock.specs.Fresh.{Fresh, Made};
+ghost use Rattle.lock.specs.Meaning.{Lawful};
+ghost use Rattle.algorithm.specs.Plan.{Plan, Coherent};
+ghost use Rattle.algorithm.specs.Turns.{found, place_of, with_place, fresh, made_for};
+ghost use Rattle.algorithm.specs.Meaning.{Claims, meaning_by};
+ghost use Rattle.algorithm.specs.declared.PlaceLock.{PlaceLock};
+
+use bus::{Access, Registers};
+use lock::Lock;
+use lock::count::WrongStationCount;
+use lock::stage::Stage;
+
+// An algorithm, as the place of one station: what it does there, and where it goes.
+pub trait Algorithm: Copy {
+    type Registers: Registers + Drop;
+
+    // what the algorithm does
+    ghost plan: { Plan Self Self.Registers Self.Registers.Name Self.Registers.Value };
+
+    // what it claims of a lock's turns
+    ghost claims: { Claims (PlaceLock Self Self.Registers) };
+
+    // where a station rests, where it begins, and where it ends its time inside
+    fn idle() -> Self
+        ensures { result ≡ plan.idle };
+
+    fn entry() -> Self
+        ensures { result ≡ plan.entry };
+
+    fn exit() -> Self
+        ensures { result ≡ plan.exit };
+
+    // the registers while all rest
+    fn registers() -> Self::Registers
+        ensures { result ≡ plan.registers };
+
+    fn stage(self) -> Stage
+        ensures { result ≡ plan.stage_at self };
+
+    // The one access that a station makes here; none at rest and none inside.
+    fn access(self, station: usize) -> Option<Access<<Self::Registers as Registers>::Name, <Self::Registers as Registers>::Value>>
+        ensures { result ≡ plan.access_at station self };
+
+    // Goes to the next place of a station among n, by the value that went over the bus.
+    fn turn(&mut self, n: usize, station: usize, value: <Self::Registers as Registers>::Value)
+        ensures { self.new ≡ plan.next n station self.old value };
+
+    // a station at rest or inside has no access to make, and any other has one
+    ghost coherent: { Coherent plan };
+
+    ghost lawful: { Lawful (meaning_by plan Self.Registers.value_of Self.Registers.with_value claims) };
+
+    ghost starts: { (n : ℕ) → 1 ≤ n → n ≤ 16 → Fresh (meaning_by plan Self.Registers.value_of Self.Registers.with_value claims) n (fresh plan n) };
+}
+
+// What belongs to station i has the index i - 1.
+#[derive(Drop)]
+pub struct PlaceLock<P, M> {
+    n: usize,
+    registers: M,
+    places: [P; 16],
+}
+
+impl<P: Algorithm> PlaceLock<P, P::Registers> {
+    // A lock whose n stations rest.
+    pub fn new(n: usize) -> Result<Self, WrongStationCount>
+        ensures value { result ≡ made_for P.plan n }
+        ensures fresh { Made (meaning_by P.plan P.Registers.value_of P.Registers.with_value P.claims) n result }
+    {
+        if n == 0 || n > 16 {
+            return Err(WrongStationCount);
+        }
+        Ok(PlaceLock {
+            n,
+            registers: P::registers(),
+            places: [P::idle(); 16],
+        })
+    }
+
+    // The place of a station; none for a number that is no station's.
+    fn find(&self, station: usize) -> Option<P>
+        ensures { result ≡ found self.now station }
+    {
+        if station == 0 || station > self.n {
+            return None;
+        }
+        self.places.get(station - 1).copied()
+    }
+
+    // The station's place; a number that is no station's has nothing to do.
+    pub fn place(&self, station: usize) -> P
+        ensures { result ≡ place_of P.plan self.now station }
+    {
+        self.find(station).unwrap_or(P::idle())
+    }
+
+    fn go(&mut self, station: usize, place: P)
+        ensures { self.new ≡ with_place self.old station place }
+    {
+        if station > 0 && station <= self.places.len() {
+            self.places[station - 1] = place;
+        }
+    }
+
+    // The access that the station's next turn makes; none for one at rest or inside, or for a number that is no station's.
+    pub fn next_access(&self, station: usize) -> Option<Access<<P::Registers as Registers>::Name, <P::Registers as Registers>::Value>>
+        ensures { result ≡ P.plan.access_at station (place_of P.plan self.now station) }
+    {
+        self.place(station).access(station)
+    }
+
+    // What stands in a register. To look at it is no access.
+    pub fn read(&self, register: <P::Registers as Registers>::Name) -> <P::Registers as Registers>::Value
+        ensures { result ≡ P.Registers.value_of self.now.registers register }
+    {
+        self.registers.read(register)
+    }
+}
+
+impl<P: Algorithm> Lock for PlaceLock<P, P::Registers> {
+    ghost meaning = { meaning_by P.plan P.Registers.value_of P.Registers.with_value P.claims };
+
+    ghost lawful = { P.lawful };
+
+    fn stage(&self, station: usize) -> Option<Stage> {
+        self.find(station).map(P::stage)
+    }
+
+    fn begin(&mut self, station: usize) -> bool {
+        let rests = self.stage(station) == Some(Stage::Rest);
+        if rests {
+            self.go(station, P::entry());
+        }
+        rests
+    }
+
+    fn turn(&mut self, station: usize) -> bool {
+        let mut place = self.place(station);
+        match place.access(station) {
+            Some(access) => {
+                let value = self.registers.perform(access);
+                place.turn(self.n, station, value);
+                self.go(station, place);
+                true
+            }
+            None => false,
+        }
+    }
+
+    fn end(&mut self, station: usize) -> bool {
+        let inside = self.stage(station) == Some(Stage::Inside);
+        if inside {
+            self.go(station, P::exit());
+        }
+        inside
+    }
+}
