@@ -1,5 +1,5 @@
 -- A turn: the one access that the place makes, and then the next place, by the place and the value that went over the bus.
-use Rattle.std.specs.Prelude.{ℕ, ◌-◌, cond, ◌||◌, replicate, List, map, take, Some, None, Ok, Err, Option, Result, ◌==◌, nat_le, nat_lt, slice_get, slice_set}
+use Rattle.std.specs.Prelude.{ℕ, ◌-◌, cond, ◌||◌, replicate, List, Some, None, Ok, Err, Option, Result, ◌==◌, nat_le, nat_lt, slice_get, slice_set}
 use Rattle.bus.specs.declared.Access.{Access}
 use Rattle.bus.specs.Registers.{performed, carried}
 use Rattle.lock.specs.declared.count.WrongStationCount.{WrongStationCount}

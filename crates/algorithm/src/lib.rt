@@ -43,7 +43,10 @@ pub trait Algorithm: Copy {
         ensures { result ≡ plan.stage_at self };
 
     // The one access that a station makes here; none at rest and none inside.
-    fn access(self, station: usize) -> Option<Access<<Self::Registers as Registers>::Name, <Self::Registers as Registers>::Value>>
+    fn access(
+        self,
+        station: usize,
+    ) -> Option<Access<<Self::Registers as Registers>::Name, <Self::Registers as Registers>::Value>>
         ensures { result ≡ plan.access_at station self };
 
     // Goes to the next place of a station among n, by the value that went over the bus.
@@ -108,14 +111,20 @@ impl<P: Algorithm> PlaceLock<P, P::Registers> {
     }
 
     // The access that the station's next turn makes; none for one at rest or inside, or for a number that is no station's.
-    pub fn next_access(&self, station: usize) -> Option<Access<<P::Registers as Registers>::Name, <P::Registers as Registers>::Value>>
+    pub fn next_access(
+        &self,
+        station: usize,
+    ) -> Option<Access<<P::Registers as Registers>::Name, <P::Registers as Registers>::Value>>
         ensures { result ≡ P.plan.access_at station (place_of P.plan self.now station) }
     {
         self.place(station).access(station)
     }
 
     // What stands in a register. To look at it is no access.
-    pub fn read(&self, register: <P::Registers as Registers>::Name) -> <P::Registers as Registers>::Value
+    pub fn read(
+        &self,
+        register: <P::Registers as Registers>::Name,
+    ) -> <P::Registers as Registers>::Value
         ensures { result ≡ P.Registers.value_of self.now.registers register }
     {
         self.registers.read(register)

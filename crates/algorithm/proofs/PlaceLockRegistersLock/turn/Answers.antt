@@ -1,4 +1,4 @@
-use Rattle.std.proofs.Common.{is_some, sym, ap, ◌∙◌, rules}
+use Rattle.std.proofs.Common.{is_some, sym, ap, ◌∙◌}
 use Rattle.algorithm.proofs.Stations.{moving_access}
 use Rattle.algorithm.proofs.PlaceLockRegistersLock.turn.Goals as goal
 
