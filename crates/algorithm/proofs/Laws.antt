@@ -5,7 +5,7 @@ use lib.ListN.{get_or-replicate}
 use Rattle.bus.specs.declared.Access.{Access}
 use Rattle.lock.specs.declared.stage.Stage.{Stage}
 use Rattle.lock.specs.declared.stage.Stage.TheVariants.{Rest, Trying, Inside, Leaving}
-use Rattle.lock.specs.Stages.{asked, moved, moving, OthersRest, is_resting, is_moving, is_inside}
+use Rattle.lock.specs.Stages.{asked, moved, resting, moving, inside, OthersRest, is_resting, is_moving, is_inside}
 use Rattle.lock.specs.Meaning.{Meaning, Kept, Lawful}
 use Rattle.lock.specs.Fresh.{Fresh}
 use Rattle.lock.proofs.Moves.{moved_same}
@@ -35,6 +35,12 @@ module _ {P M R V : Type 0} (a : Plan P M R V) (l : PlaceLock P M) (i : ℕ) whe
 
   ended_there : is_inside (stages a l) i ≡ true → ended a l i ≡ with_place l i a.exit
   ended_there r = grind arith
+
+  pub begun_at : asked (stages a l) i ≡ Some Rest → begun a l i ≡ with_place l i a.entry
+  begun_at r = begun_there (ap resting r)
+
+  pub ended_at : asked (stages a l) i ≡ Some Inside → ended a l i ≡ with_place l i a.exit
+  ended_at r = ended_there (ap inside r)
 
 module _ {P M R V : Type 0} (a : Plan P M R V) (value_of : M → R → V) (with_value : M → R → V → M) (l : PlaceLock P M) (i : ℕ) where
   step_same : (o : Option (Access R V)) → (p : P) → is_some o ≡ false → stepped a value_of with_value l i p o ≡ l

@@ -30,7 +30,7 @@ pub trait Registers {
         ensures { self.new ≡ with_value self.old register value };
 
     // Makes one access, and gives the value that went over the bus: what was read, or what was written.
-    fn perform(&mut self, access: Access<Self::Name, Self::Value>) -> Self::Value
+    final fn perform(&mut self, access: Access<Self::Name, Self::Value>) -> Self::Value
         ensures left { self.new ≡ performed with_value self.old access }
         ensures said { result ≡ carried value_of self.old access }
     {

@@ -5,13 +5,13 @@ use Rattle.lock.specs.Stages.{Station, asked, OthersRest, AllRest}
 use Rattle.lock.specs.Meaning.{turns, Exactly}
 use Rattle.one_bit.specs.declared.place.Place.{Place}
 use Rattle.one_bit.specs.declared.place.Place.TheVariants.{Idle, Raise, Lower}
-use Rattle.one_bit.specs.declared.OneBit.{OneBit}
 use Rattle.one_bit.specs.Places.{stage_at, to_come}
-use Rattle.one_bit.specs.Registers.{place_of}
-use Rattle.one_bit.specs.Turns.{turned}
+use Rattle.algorithm.specs.Turns as by
+use Rattle.algorithm.proofs.Stations.{length_stages, asked_at, numbered}
+use Rattle.algorithm.proofs.Laws.{begun_at, ended_at}
+use Rattle.one_bit.specs.Plan.{OneBit, one_bit_plan, place_of, stages, turned}
 use Rattle.one_bit.specs.Sound.{Numbered, Sound}
-use Rattle.one_bit.specs.Meaning.{stages, begun, ended, one_bit_meaning}
-use Rattle.one_bit.specs.Stations.{length_stages, asked_at, numbered}
+use Rattle.one_bit.specs.Meaning.{one_bit_meaning}
 use Rattle.one_bit.specs.Put.{put, place_here, place_other}
 use Rattle.one_bit.specs.Steps.{steps}
 use Rattle.one_bit.proofs.Next.{Climbs, climbs_trying, climbs_inside, next_climbs, next_nearer}
@@ -19,6 +19,12 @@ use Rattle.one_bit.specs.Turn.{after, turned_put, turned_sound, alone_after}
 use Rattle.one_bit.specs.Ends.{begun_put, begun_sound, ended_put, ended_sound}
 use Rattle.one_bit.specs.Kept.{turned_kept, ended_kept}
 use Rattle.one_bit.specs.Law.{lowered_put}
+
+abbrev begun : OneBit → ℕ → OneBit
+begun = by.begun one_bit_plan
+
+abbrev ended : OneBit → ℕ → OneBit
+ended = by.ended one_bit_plan
 
 -- the turns to come of a station
 abbrev left : OneBit → ℕ → ℕ
@@ -32,27 +38,27 @@ record Alone (l : OneBit) (i : ℕ) : Type 0 where
 
 module _ (l : OneBit) (s : Sound l) (i : ℕ) (h : Numbered l i) (p : Place) (s' : Sound (put l i p)) where
   asked-put : asked (stages (put l i p)) i ≡ Some (stage_at p)
-  asked-put = asked_at (put l i p) s' i h ∙ ap (λ q. Some (stage_at q)) (place_here l s i h p)
+  asked-put = asked_at one_bit_plan (put l i p) s'.places_fit i h ∙ ap (λ q. Some (stage_at q)) (place_here l s i h p)
 
   -- the others rest as they did
   others_put : OthersRest (stages l) i → OthersRest (stages (put l i p)) i
   others_put o j t d =
-      let w : Numbered l j = (t.0, rw (length_stages (put l i p) s') at t.1) in
-      let m : j ≤ length (stages l) = rw (length_stages l s) w.1 in
-      asked_at (put l i p) s' j w ∙ ap (λ q. Some (stage_at q)) (place_other l s i h p j w d) ∙ sym (asked_at l s j w) ∙ o j (t.0, m) d
+      let w : Numbered l j = (t.0, rw (length_stages one_bit_plan (put l i p) s'.places_fit) at t.1) in
+      let m : j ≤ length (stages l) = rw (length_stages one_bit_plan l s.places_fit) w.1 in
+      asked_at one_bit_plan (put l i p) s'.places_fit j w ∙ ap (λ q. Some (stage_at q)) (place_other l s i h p j w d) ∙ sym (asked_at one_bit_plan l s.places_fit j w) ∙ o j (t.0, m) d
 
   alone_put : OthersRest (stages l) i → Climbs p → Alone (put l i p) i
   alone_put o c = record { sound = s'; here = h; others = others_put o; climbs = rw (place_here l s i h p) c }
 
 -- with turns to come it is trying, and with none inside
 alone_trying : (l : OneBit) (i : ℕ) → Alone l i → 0 < left l i → asked (stages l) i ≡ Some Trying
-alone_trying l i a m = asked_at l a.sound i a.here ∙ ap Some (climbs_trying l.n (place_of l i) a.climbs m)
+alone_trying l i a m = asked_at one_bit_plan l a.sound.places_fit i a.here ∙ ap Some (climbs_trying l.n (place_of l i) a.climbs m)
 
 alone_inside : (l : OneBit) (i : ℕ) → Alone l i → left l i ≡ 0 → asked (stages l) i ≡ Some Inside
 alone_inside l i a e =
     let s = a.sound in
     let h = a.here in
-    asked_at l s i h ∙ ap Some (climbs_inside l.n i s.most h.0 h.1 (place_of l i) (s.ranged i h) a.climbs e)
+    asked_at one_bit_plan l s.places_fit i h ∙ ap Some (climbs_inside l.n i s.most h.0 h.1 (place_of l i) (s.ranged i h) a.climbs e)
 
 -- one turn, and many
 climb : (l : OneBit) (i : ℕ) → Alone l i → 0 < left l i → Alone (turned l i) i × (left (turned l i) i + 1 ≡ left l i)
@@ -77,19 +83,19 @@ climb_on (suc k) l i a m =
 -- it begins with as many turns to come as there are stations
 begins_alone : (l : OneBit) (i : ℕ) → Sound l → AllRest (stages l) → Station (stages l) i → Alone (begun l i) i × (left (begun l i) i ≡ length (stages l))
 begins_alone l i s r t =
-    let h = numbered l s i Rest (r i t) in
-    let e = begun_put l s i (r i t) in
-    (rw e (alone_put l s i h Raise (begun_sound l s i (r i t)) (λ j u d. r j u) tt), rw (e, place_here l s i h Raise, length_stages l s))
+    let h = numbered one_bit_plan l i Rest (r i t) in
+    let e = begun_at one_bit_plan l i (r i t) ∙ begun_put l s i (r i t) in
+    (rw e (alone_put l s i h Raise (begun_sound l s i (r i t)) (λ j u d. r j u) tt), rw (e, place_here l s i h Raise, length_stages one_bit_plan l s.places_fit))
 
 -- out again
 leaving : (k : ℕ) (l : OneBit) (i : ℕ) → Sound l → asked (stages l) i ≡ Some Inside → k < 1 → asked (stages (turns one_bit_meaning k (ended l i) i)) i ≡ Some Leaving
-leaving zero l i s a m = rw (ended_put l s i a) (asked-put l s i (numbered l s i Inside a) Lower (ended_sound l s i a))
+leaving zero l i s a m = rw (ended_at one_bit_plan l i a ∙ ended_put l s i a) (asked-put l s i (numbered one_bit_plan l i Inside a) Lower (ended_sound l s i a))
 leaving (suc k) l i s a m = absurd (omega arith)
 
 rested : (l : OneBit) (i : ℕ) → Sound l → asked (stages l) i ≡ Some Leaving → asked (stages (turned l i)) i ≡ Some Rest
 rested l i s a =
     let e = lowered_put steps l i s a in
-    rw e (asked-put l s i (numbered l s i Leaving a) Idle (rw e at (turned_kept steps l i s).sound))
+    rw e (asked-put l s i (numbered one_bit_plan l i Leaving a) Idle (rw e at (turned_kept steps l i s (numbered one_bit_plan l i Leaving a)).sound))
 
 pub exactly : Exactly one_bit_meaning (λ n. n) (λ _. 1)
 exactly = record {
@@ -103,5 +109,5 @@ exactly = record {
       let c = climb_on n (begun l i) i b.0 (omega arith) in
       alone_inside (turns one_bit_meaning n (begun l i) i) i c.0 (omega arith);
   stays = λ l i k s a m. leaving k l i s a m;
-  rests = λ l i s a. rested (ended l i) i (ended_kept l i s).sound (leaving 0 l i s a (omega arith));
+  rests = λ l i s a. rested (ended l i) i (rw (ended_at one_bit_plan l i a) (ended_kept l i s a).sound) (leaving 0 l i s a (omega arith));
 }

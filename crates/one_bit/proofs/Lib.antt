@@ -1,3 +1,2 @@
 pub mod Next
 pub mod Climb
-pub mod Starts

@@ -1,14 +1,15 @@
 -- One turn, at each place: the heart of mutual exclusion, and of each turn's being one fewer to come.
-use Rattle.std.specs.Prelude.{◌≡◌, ℕ, ◌<◌, ◌≤◌, Bool, false, ◌⊎◌, None, Some, Option, ◌≢◌}
+use Rattle.std.specs.Prelude.{◌≡◌, ℕ, ◌<◌, ◌≤◌, Bool, false, None, Some, Option, ◌≢◌}
 use Rattle.std.proofs.Common.{arith}
 use Rattle.bus.specs.declared.Access.{Access}
-use Rattle.lock.specs.declared.stage.Stage.TheVariants.{Trying, Inside}
+use Rattle.bus.specs.Registers.{carried}
+use Rattle.lock.specs.declared.stage.Stage.TheVariants.{Trying}
 use Rattle.one_bit.specs.declared.register.Register.{Register}
 use Rattle.one_bit.specs.declared.place.Place.{Place}
-use Rattle.one_bit.specs.declared.OneBit.{OneBit}
 use Rattle.one_bit.specs.Places.{stage_at, access_at, raised, reach, Ranged, to_come}
-use Rattle.one_bit.specs.Registers.{place_of, flag_of, carried}
-use Rattle.one_bit.specs.Turns.{next, stepped}
+use Rattle.one_bit.specs.Registers.{value_of}
+use Rattle.one_bit.specs.Turns.{next}
+use Rattle.one_bit.specs.Plan.{OneBit, place_of, flag_of, stepped}
 use Rattle.one_bit.specs.Sound.{Numbered, Sound}
 use Rattle.one_bit.specs.Put.{put, put_place, put_same}
 use Rattle.one_bit.specs.Next.{lower_raised, higher_raised}
@@ -16,7 +17,7 @@ use Rattle.one_bit.specs.Next.{lower_raised, higher_raised}
 -- the value that goes over the bus, if any does
 abbrev pub on_bus : OneBit → Option (Access Register Bool) → Bool
 on_bus l None = false
-on_bus l (Some a) = carried l a
+on_bus l (Some a) = carried value_of l.registers a
 
 -- the place after the turn
 abbrev pub after_from : OneBit → ℕ → Place → Place
@@ -25,7 +26,6 @@ after_from l i p = next l.n i p (on_bus l (access_at i p))
 -- what a turn of station i at p does
 pub record Steps (l : OneBit) (i : ℕ) (p : Place) : Type 0 where
   pub ranged : (v : Bool) → Ranged l.n i p → Ranged l.n i (next l.n i p v)
-  pub stage : (v : Bool) → stage_at p ≡ Trying → (stage_at (next l.n i p v) ≡ Trying) ⊎ (stage_at (next l.n i p v) ≡ Inside)
   -- past lowered flags each turn is one fewer to come, at the least
   pub falls : Ranged l.n i p → stage_at p ≡ Trying → to_come l.n (next l.n i p false) < to_come l.n p
   -- a station that a turn takes past station k at q had passed k before, or has just read the flag of k lowered
@@ -43,7 +43,6 @@ EveryStep = (l : OneBit) (i : ℕ) → l.n ≤ 16 → 1 ≤ i → i ≤ l.n → 
 pub steps : EveryStep
 steps l i few least most p = record {
   ranged = λ v r. grind arith;
-  stage = λ v e. grind arith;
   falls = λ r e. grind arith;
   clear = λ k q c d ne r f apart m v. grind arith;
   put_there = λ s h e. grind (arith, put_place l s i h, put_same l s i h, lower_raised, higher_raised);

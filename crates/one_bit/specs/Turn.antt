@@ -4,13 +4,11 @@ use Rattle.std.proofs.Common.{sym, ap, ◌∙◌}
 use Rattle.lock.specs.declared.stage.Stage.TheVariants.{Rest}
 use Rattle.lock.specs.Stages.{OthersRest}
 use Rattle.one_bit.specs.declared.place.Place.{Place}
-use Rattle.one_bit.specs.declared.OneBit.{OneBit}
 use Rattle.one_bit.specs.Places.{access_at, raised}
-use Rattle.one_bit.specs.Registers.{place_of, flag_of}
-use Rattle.one_bit.specs.Turns.{next, turned}
+use Rattle.one_bit.specs.Turns.{next}
+use Rattle.one_bit.specs.Plan.{OneBit, one_bit_plan, place_of, flag_of, stages, turned}
 use Rattle.one_bit.specs.Sound.{Numbered, Sound}
-use Rattle.one_bit.specs.Meaning.{stages}
-use Rattle.one_bit.specs.Stations.{length_stages, stage_there}
+use Rattle.algorithm.proofs.Stations.{length_stages, stage_there}
 use Rattle.one_bit.specs.Put.{put, put_sound}
 use Rattle.one_bit.specs.Next.{at_rest}
 use Rattle.one_bit.specs.Steps.{on_bus, after_from, EveryStep}
@@ -34,8 +32,8 @@ module _ (steps : EveryStep) (l : OneBit) (s : Sound l) (i : ℕ) (h : Numbered 
   module _ (o : OthersRest (stages l) i) where
     others_lowered : (j : ℕ) → Numbered l j → (j ≢ i) → flag_of l j ≡ false
     others_lowered j w d =
-        let here : j ≤ length (stages l) = rw (length_stages l s) w.1 in
-        s.flags j w ∙ ap raised (at_rest (place_of l j) (stage_there l s j Rest (o j (w.0, here) d)))
+        let here : j ≤ length (stages l) = rw (length_stages one_bit_plan l s.places_fit) w.1 in
+        s.flags j w ∙ ap raised (at_rest (place_of l j) (stage_there one_bit_plan l s.places_fit j Rest (o j (w.0, here) d)))
 
     pub alone_after : after l i ≡ next l.n i (place_of l i) false
     alone_after = (steps l i s.most h.0 h.1 (place_of l i)).alone_from others_lowered (s.ranged i h)

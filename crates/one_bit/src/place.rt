@@ -1,7 +1,13 @@
 ghost use Rattle.std.specs.Prelude.{◌≡◌};
-ghost use Rattle.one_bit.specs.Places.{stage_at, access_at};
+ghost use Rattle.one_bit.specs.Turns.{lower_after, higher_after};
+ghost use Rattle.one_bit.specs.Plan.{one_bit_plan};
+ghost use Rattle.one_bit.specs.Meaning.{one_bit_claims};
+ghost use Rattle.one_bit.specs.Law;
+ghost use Rattle.one_bit.specs.Steps.{steps};
 
+use crate::flags::Flags;
 use crate::register::Register;
+use algorithm::Algorithm;
 use bus::Access;
 use lock::stage::Stage;
 
@@ -26,10 +32,57 @@ pub enum Place {
     Lower,
 }
 
-impl Place {
-    pub fn stage(self) -> Stage
-        ensures { result ≡ stage_at self }
-    {
+// Where station `station` goes that is done with the flag of j, below its own: to the next one below its own, or on.
+fn lower_after(n: usize, station: usize, j: usize) -> Place
+    ensures { result ≡ lower_after n station j }
+{
+    match j.checked_add(1) {
+        Some(next) if next < station => Place::CheckLow(next),
+        _ => higher_after(n, station),
+    }
+}
+
+// Where a station goes that is done with the flags up to that of j, not below its own: to the next one, or inside.
+fn higher_after(n: usize, j: usize) -> Place
+    ensures { result ≡ higher_after n j }
+{
+    if j < n {
+        Place::CheckHigh(j + 1)
+    } else {
+        Place::Within
+    }
+}
+
+impl Algorithm for Place {
+    type Registers = Flags;
+
+    ghost plan = { one_bit_plan };
+
+    ghost claims = { one_bit_claims };
+
+    ghost coherent = { Law.coherent };
+
+    ghost lawful = { Law.lawful steps };
+
+    ghost starts = { Law.starts };
+
+    fn idle() -> Place {
+        Place::Idle
+    }
+
+    fn entry() -> Place {
+        Place::Raise
+    }
+
+    fn exit() -> Place {
+        Place::Lower
+    }
+
+    fn registers() -> Flags {
+        Flags { flags: [false; 16] }
+    }
+
+    fn stage(self) -> Stage {
         match self {
             Place::Idle => Stage::Rest,
             Place::Raise
@@ -42,10 +95,7 @@ impl Place {
         }
     }
 
-    // The one access that a station makes here; none at rest and none inside.
-    pub fn access(self, station: usize) -> Option<Access<Register, bool>>
-        ensures { result ≡ access_at station self }
-    {
+    fn access(self, station: usize) -> Option<Access<Register, bool>> {
         match self {
             Place::Idle | Place::Within => None,
             Place::Raise => Some(Access::Write(Register::Flag(station), true)),
@@ -54,5 +104,21 @@ impl Place {
             )),
             Place::Yield(_) | Place::Lower => Some(Access::Write(Register::Flag(station), false)),
         }
+    }
+
+    fn turn(&mut self, n: usize, station: usize, value: bool) {
+        *self = match (*self, value) {
+            (Place::Idle, _) => Place::Idle,
+            (Place::Raise, _) => lower_after(n, station, 0),
+            (Place::CheckLow(j), true) => Place::Yield(j),
+            (Place::CheckLow(j), false) => lower_after(n, station, j),
+            (Place::Yield(j), _) => Place::Await(j),
+            (Place::Await(j), true) => Place::Await(j),
+            (Place::Await(_), false) => Place::Raise,
+            (Place::CheckHigh(j), true) => Place::CheckHigh(j),
+            (Place::CheckHigh(j), false) => higher_after(n, j),
+            (Place::Within, _) => Place::Within,
+            (Place::Lower, _) => Place::Idle,
+        };
     }
 }
