@@ -1,3 +1,4 @@
 pub mod Plan
 pub mod Turns
 pub mod Meaning
+pub mod Flags

@@ -15,6 +15,8 @@ use lock::Lock;
 use lock::count::WrongStationCount;
 use lock::stage::Stage;
 
+pub mod flags;
+
 // An algorithm, as the place of one station: what it does there, and where it goes.
 pub trait Algorithm: Copy {
     type Registers: Registers + Drop;

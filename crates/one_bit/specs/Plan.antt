@@ -1,37 +1,38 @@
 -- The algorithm whole, and the lock by it.
-use Rattle.std.specs.Prelude.{ℕ, Bool, false, replicate, List, Option}
+use Rattle.std.specs.Prelude.{ℕ, Bool, List, Option}
 use Rattle.bus.specs.declared.Access.{Access}
 use Rattle.lock.specs.declared.stage.Stage.{Stage}
 use Rattle.algorithm.specs.declared.PlaceLock.{PlaceLock}
+use Rattle.algorithm.specs.Flags.{all_down, flag_in}
 use Rattle.algorithm.specs.Plan.{Plan}
 use Rattle.algorithm.specs.Turns as by
 use Rattle.one_bit.specs.declared.register.Register.{Register}
-use Rattle.one_bit.specs.declared.flags.Flags.{Flags}
+use Rattle.one_bit.specs.declared.shared.Shared.{Shared}
 use Rattle.one_bit.specs.declared.place.Place.{Place}
 use Rattle.one_bit.specs.declared.place.Place.TheVariants.{Idle, Raise, Lower}
 use Rattle.one_bit.specs.Places.{stage_at, access_at}
-use Rattle.one_bit.specs.Registers.{flag_in, value_of, with_value}
+use Rattle.one_bit.specs.Registers.{value_of, with_value}
 use Rattle.one_bit.specs.Turns.{next}
 
-abbrev pub one_bit_plan : Plan Place Flags Register Bool
+abbrev pub one_bit_plan : Plan Place Shared Register Bool
 one_bit_plan = record {
   idle = Idle;
   entry = Raise;
   exit = Lower;
-  registers = record { flags = replicate 16 false };
+  registers = record { flags = all_down };
   stage_at = stage_at;
   access_at = access_at;
   next = next;
 }
 
 abbrev pub OneBit : Type 0
-OneBit = PlaceLock Place Flags
+OneBit = PlaceLock Place Shared
 
 abbrev pub place_of : OneBit → ℕ → Place
 place_of = by.place_of one_bit_plan
 
 abbrev pub flag_of : OneBit → ℕ → Bool
-flag_of l j = flag_in l.registers j
+flag_of l j = flag_in l.registers.flags j
 
 abbrev pub stages : OneBit → List Stage
 stages = by.stages one_bit_plan

@@ -10,7 +10,7 @@ use Rattle.one_bit.specs.Plan.{OneBit, place_of, flag_of}
 use Rattle.one_bit.specs.Sound.{Numbered, Sound}
 
 abbrev pub put : OneBit → ℕ → Place → OneBit
-put l i p = record { n = l.n; registers = record { flags = slice_set l.registers.flags (i - 1) (raised p) }; places = slice_set l.places (i - 1) p }
+put l i p = record { n = l.n; registers = record { flags = record { raised = slice_set l.registers.flags.raised (i - 1) (raised p) } }; places = slice_set l.places (i - 1) p }
 
 -- no other station that is passed at the place has passed this one
 abbrev pub Clear : OneBit → ℕ → Place → Type 0

@@ -10,7 +10,7 @@ pub record Sound (l : OneBit) : Type 0 where
   pub least : 1 ≤ l.n
   pub most : l.n ≤ 16
   pub places_fit : l.n ≤ length l.places
-  pub flags_fit : l.n ≤ length l.registers.flags
+  pub flags_fit : l.n ≤ length l.registers.flags.raised
   -- each flag is what its station's place says
   pub flags : (i : ℕ) → Numbered l i → flag_of l i ≡ raised (place_of l i)
   pub ranged : (i : ℕ) → Numbered l i → Ranged l.n i (place_of l i)

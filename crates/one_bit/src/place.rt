@@ -5,9 +5,10 @@ ghost use Rattle.one_bit.specs.Meaning.{one_bit_claims};
 ghost use Rattle.one_bit.specs.Law;
 ghost use Rattle.one_bit.specs.Steps.{steps};
 
-use crate::flags::Flags;
 use crate::register::Register;
+use crate::shared::Shared;
 use algorithm::Algorithm;
+use algorithm::flags::Flags;
 use bus::Access;
 use lock::stage::Stage;
 
@@ -54,7 +55,7 @@ fn higher_after(n: usize, j: usize) -> Place
 }
 
 impl Algorithm for Place {
-    type Registers = Flags;
+    type Registers = Shared;
 
     ghost plan = { one_bit_plan };
 
@@ -78,8 +79,10 @@ impl Algorithm for Place {
         Place::Lower
     }
 
-    fn registers() -> Flags {
-        Flags { flags: [false; 16] }
+    fn registers() -> Shared {
+        Shared {
+            flags: Flags::down(),
+        }
     }
 
     fn stage(self) -> Stage {

@@ -1,15 +1,16 @@
 ghost use Rattle.one_bit.specs.Registers.{value_of, with_value};
 
 use crate::register::Register;
+use algorithm::flags::Flags;
 use bus::Registers;
 
-// The flags of the stations. That of station i has the index i - 1; of any other number there is none.
+// What the stations share: a flag for each.
 #[derive(Clone, Copy)]
-pub struct Flags {
-    pub(crate) flags: [bool; 16],
+pub struct Shared {
+    pub(crate) flags: Flags,
 }
 
-impl Registers for Flags {
+impl Registers for Shared {
     type Name = Register;
 
     type Value = bool;
@@ -20,16 +21,11 @@ impl Registers for Flags {
 
     fn read(&self, register: Register) -> bool {
         let Register::Flag(station) = register;
-        if station == 0 {
-            return false;
-        }
-        self.flags.get(station - 1).copied().unwrap_or(false)
+        self.flags.is_raised(station)
     }
 
     fn write(&mut self, register: Register, value: bool) {
         let Register::Flag(station) = register;
-        if station > 0 && station <= self.flags.len() {
-            self.flags[station - 1] = value;
-        }
+        self.flags.set(station, value);
     }
 }

@@ -1,0 +1,37 @@
+ghost use Rattle.std.specs.Prelude.{◌≡◌};
+ghost use Rattle.algorithm.specs.Flags.{all_down, flag_in, with_flag};
+
+// A flag for each station. That of station i has the index i - 1; a number outside 1 to 16 has none.
+#[derive(Clone, Copy)]
+pub struct Flags {
+    raised: [bool; 16],
+}
+
+impl Flags {
+    pub fn down() -> Flags
+        ensures { result ≡ all_down }
+    {
+        Flags {
+            raised: [false; 16],
+        }
+    }
+
+    // Whether a station's flag is raised; where there is none, it is not.
+    pub fn is_raised(&self, station: usize) -> bool
+        ensures { result ≡ flag_in self.now station }
+    {
+        if station == 0 {
+            return false;
+        }
+        self.raised.get(station - 1).copied().unwrap_or(false)
+    }
+
+    // Raises or lowers a station's flag; where there is none, it does nothing.
+    pub fn set(&mut self, station: usize, raised: bool)
+        ensures { self.new ≡ with_flag self.old station raised }
+    {
+        if station > 0 && station <= self.raised.len() {
+            self.raised[station - 1] = raised;
+        }
+    }
+}
