@@ -1,2 +1,3 @@
 pub mod Stations
 pub mod Laws
+pub mod Lowered

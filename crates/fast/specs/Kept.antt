@@ -1,29 +1,24 @@
 -- What begin, turn and end keep: soundness, the two numbers, and the counts of turns still to come.
 use Rattle.std.specs.Prelude.{◌≡◌, ℕ, ◌+◌, ◌≤◌, Some, ◌≢◌, refl}
 use Rattle.std.proofs.Common.{sym, ap, ◌∙◌, subst, ⊎_elim, le_of_lt, arith}
-use Rattle.std.proofs.lemmas.Bool.{cases_eq, cases_Bool}
+use Rattle.std.proofs.lemmas.Bool.{cases_eq}
 use Rattle.lock.specs.declared.stage.Stage.TheVariants.{Rest, Trying, Inside, Leaving}
-use Rattle.lock.specs.Stages.{asked, OthersRest, is_resting, is_inside}
+use Rattle.lock.specs.Stages.{asked, OthersRest}
 use Rattle.lock.specs.Meaning.{Kept}
-use Rattle.lock.proofs.Tests.{resting-asked, inside-asked}
 use Rattle.fast.specs.declared.place.Place.TheVariants.{Raise, Release}
-use Rattle.fast.specs.declared.Fast.{Fast}
 use Rattle.fast.specs.Places.{stage_at}
-use Rattle.fast.specs.Registers.{place_of}
-use Rattle.fast.specs.Turns.{turned}
+use Rattle.fast.specs.Plan.{Fast, fast_plan, place_of, stages, turned}
 use Rattle.fast.specs.Sound.{Numbered, Sound}
-use Rattle.fast.specs.Meaning.{stages, begun, ended, left, fast_meaning}
-use Rattle.fast.specs.Stations.{numbered, stage_there, in_or_out}
+use Rattle.fast.specs.Meaning.{left, fast_meaning}
+use Rattle.algorithm.specs.Turns.{with_place}
+use Rattle.algorithm.proofs.Stations.{numbered, stage_there}
 use Rattle.fast.specs.Moves.{Outcome, put, going, Move}
 use Rattle.fast.specs.Put.{place_here, place_there}
 use Rattle.fast.specs.Steps.{EveryStep}
 use Rattle.fast.specs.Ways.{EveryWay}
 use Rattle.fast.specs.Soundness.{put_sound}
-use Rattle.fast.specs.Calls.{after, turned_put, turned_move, turned_outside, begun_put, begun_move, begun_same, ended_put, ended_move, ended_same}
+use Rattle.fast.specs.Calls.{after, turned_put, turned_move, begun_put, begun_move, ended_put, ended_move}
 use Rattle.fast.specs.Alone.{other_idle, lone_nearer}
-
-kept_same : (l l' : Fast) → Sound l → l' ≡ l → Kept fast_meaning l l'
-kept_same l l' s e = rw e (record { sound = s; lone = refl; leave = refl; trying = λ i a o b p. omega arith; leaving = λ i a b. omega arith })
 
 -- a move raises no count of turns to come
 module _ (steps : EveryStep) (ways : EveryWay) (l : Fast) (s : Sound l) (i : ℕ) (h : Numbered l i) (w : Outcome) (m : Move l i (place_of l i) w) where
@@ -47,30 +42,22 @@ module _ (steps : EveryStep) (ways : EveryWay) (l : Fast) (s : Sound l) (i : ℕ
     lone = refl;
     leave = refl;
     trying = λ k a o b p. ⊎_elim
-        (λ (e : k ≡ i). rw e (le_of_lt (lone_nearer l s i (subst (OthersRest (stages l)) e o) ways h w m (stage_there l s i Trying (rw e at a)))))
-        (λ other. trying_there k (numbered l s k Trying a) other o p)
+        (λ (e : k ≡ i). rw e (le_of_lt (lone_nearer l s i (subst (OthersRest (stages l)) e o) ways h w m (stage_there fast_plan l s.places_fit i Trying (rw e at a)))))
+        (λ other. trying_there k (numbered fast_plan l k Trying a) other o p)
         (cases_eq k i);
     leaving = λ k a b. ⊎_elim
-        (λ (e : k ≡ i). let f = leaving_here (stage_there l s i Leaving (rw e at a)) in rw e (omega arith))
-        (λ other. leaving_there k (numbered l s k Leaving a) other (stage_there l s k Leaving a))
+        (λ (e : k ≡ i). let f = leaving_here (stage_there fast_plan l s.places_fit i Leaving (rw e at a)) in rw e (omega arith))
+        (λ other. leaving_there k (numbered fast_plan l k Leaving a) other (stage_there fast_plan l s.places_fit k Leaving a))
         (cases_eq k i);
   }
 
+-- what the functions keep where there is something to do
 module _ (steps : EveryStep) (ways : EveryWay) (l : Fast) (i : ℕ) (s : Sound l) where
-  pub begun_kept : Kept fast_meaning l (begun l i)
-  begun_kept = ⊎_elim (λ r. moves (resting-asked (stages l) i r)) (λ r. kept_same l (begun l i) s (begun_same l i r)) (cases_Bool (is_resting (stages l) i))
-    where
-      moves : asked (stages l) i ≡ Some Rest → Kept fast_meaning l (begun l i)
-      moves a = rw (begun_put l s i a) (kept_put steps ways l s i (numbered l s i Rest a) (going l i Raise) (begun_move l s i a))
+  pub begun_kept : asked (stages l) i ≡ Some Rest → Kept fast_meaning l (with_place l i Raise)
+  begun_kept a = rw (begun_put l s i a) (kept_put steps ways l s i (numbered fast_plan l i Rest a) (going l i Raise) (begun_move l s i a))
 
-  pub ended_kept : Kept fast_meaning l (ended l i)
-  ended_kept = ⊎_elim (λ r. moves (inside-asked (stages l) i r)) (λ r. kept_same l (ended l i) s (ended_same l i r)) (cases_Bool (is_inside (stages l) i))
-    where
-      moves : asked (stages l) i ≡ Some Inside → Kept fast_meaning l (ended l i)
-      moves a = rw (ended_put l s i a) (kept_put steps ways l s i (numbered l s i Inside a) (going l i Release) (ended_move l s i a))
+  pub ended_kept : asked (stages l) i ≡ Some Inside → Kept fast_meaning l (with_place l i Release)
+  ended_kept a = rw (ended_put l s i a) (kept_put steps ways l s i (numbered fast_plan l i Inside a) (going l i Release) (ended_move l s i a))
 
-  pub turned_kept : Kept fast_meaning l (turned l i)
-  turned_kept = ⊎_elim (λ v. moves v.0) (λ o. kept_same l (turned l i) s (turned_outside l i o)) (in_or_out l i)
-    where
-      moves : Numbered l i → Kept fast_meaning l (turned l i)
-      moves h = rw (turned_put l i h) (kept_put steps ways l s i h (after l i) (turned_move l i))
+  pub turned_kept : Numbered l i → Kept fast_meaning l (turned l i)
+  turned_kept h = rw (turned_put l i h) (kept_put steps ways l s i h (after l i) (turned_move l i))

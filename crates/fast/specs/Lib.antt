@@ -5,7 +5,7 @@ pub mod Sound
 pub mod Meaning
 pub mod Costs
 pub mod Law
-pub mod Stations
+pub mod Plan
 pub mod Moves
 pub mod Put
 pub mod Ways

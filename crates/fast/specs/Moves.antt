@@ -4,14 +4,16 @@ use Rattle.std.proofs.Common.{arith}
 use Rattle.std.proofs.lemmas.List.{set-get_or}
 use Rattle.bus.specs.declared.Access.{Access}
 use Rattle.bus.specs.declared.Access.TheVariants.{Read, Write}
+use Rattle.bus.specs.Registers.{performed, carried}
+use Rattle.algorithm.specs.Turns.{with_place}
 use Rattle.fast.specs.declared.register.Register.{Register}
 use Rattle.fast.specs.declared.register.Register.TheVariants.{X, Y, Flag}
 use Rattle.fast.specs.declared.place.Place.{Place}
 use Rattle.fast.specs.declared.place.Place.TheVariants.{Idle, Raise, Within, Release}
-use Rattle.fast.specs.declared.Fast.{Fast}
 use Rattle.fast.specs.Places.{access_at}
-use Rattle.fast.specs.Registers.{place_of, flag_of, with_place, raises, performed, carried}
-use Rattle.fast.specs.Turns.{next, stepped}
+use Rattle.fast.specs.Registers.{raises, value_of, with_value}
+use Rattle.fast.specs.Turns.{next}
+use Rattle.fast.specs.Plan.{Fast, place_of, flag_of, stepped}
 use Rattle.fast.specs.Sound.{Numbered}
 
 -- what X, Y, and the station's flag and place are after a move
@@ -22,11 +24,11 @@ pub record Outcome : Type 0 where
   pub place : Place
 
 abbrev pub put : Fast → ℕ → Outcome → Fast
-put l i w = record { n = l.n; x = w.x; y = w.y; flags = slice_set l.flags (i - 1) w.flag; places = slice_set l.places (i - 1) w.place }
+put l i w = record { n = l.n; registers = record { x = w.x; y = w.y; flags = record { raised = slice_set l.registers.flags.raised (i - 1) w.flag } }; places = slice_set l.places (i - 1) w.place }
 
 -- no register is written
 abbrev pub going : Fast → ℕ → Place → Outcome
-going l i p = record { x = l.x; y = l.y; flag = flag_of l i; place = p }
+going l i p = record { x = l.registers.x; y = l.registers.y; flag = flag_of l i; place = p }
 
 -- the flag of station i after an access of its own
 abbrev flag_after : Fast → ℕ → Access Register ℕ → Bool
@@ -38,7 +40,7 @@ flag_after l i (Write (Flag j) v) = raises v
 -- of a turn, by the access of the place
 abbrev pub outcome : Fast → ℕ → Place → Option (Access Register ℕ) → Outcome
 outcome l i p None = going l i p
-outcome l i p (Some a) = record { x = (performed l a).x; y = (performed l a).y; flag = flag_after l i a; place = next l.n i p (carried l a) }
+outcome l i p (Some a) = record { x = (performed with_value l.registers a).x; y = (performed with_value l.registers a).y; flag = flag_after l i a; place = next l.n i p (carried value_of l.registers a) }
 
 -- the moves of station i from the place p: a turn, a begin at rest, and an end inside
 abbrev pub Move : Fast → ℕ → Place → Outcome → Type 0

@@ -2,9 +2,8 @@
 use Rattle.std.specs.Prelude.{◌≡◌, ℕ, ◌≤◌, Bool, true, false, length, Some, ◌≢◌}
 use Rattle.fast.specs.declared.place.Place.{Place}
 use Rattle.fast.specs.declared.place.Place.TheVariants.{Confirm, Scan}
-use Rattle.fast.specs.declared.Fast.{Fast}
 use Rattle.fast.specs.Places.{flag_at, on_fast_way, holds, may_own, looked_past}
-use Rattle.fast.specs.Registers.{place_of, flag_of}
+use Rattle.fast.specs.Plan.{Fast, place_of, flag_of}
 
 abbrev pub Numbered : Fast → ℕ → Type 0
 Numbered l i = (1 ≤ i) × (i ≤ l.n)
@@ -42,8 +41,8 @@ pub record Sound (l : Fast) : Type 0 where
   pub least : 1 ≤ l.n
   pub most : l.n ≤ 16
   pub places_fit : l.n ≤ length l.places
-  pub flags_fit : l.n ≤ length l.flags
+  pub flags_fit : l.n ≤ length l.registers.flags.raised
   -- Y is free or has a station's number
-  pub y_named : l.y ≤ l.n
-  pub own : (i : ℕ) → Numbered l i → Own l.n l.x l.y i (flag_of l i) (place_of l i)
-  pub pair : (i k : ℕ) → Numbered l i → Numbered l k → (i ≢ k) → Pair l.x l.y i k (flag_of l i) (place_of l i) (place_of l k)
+  pub y_named : l.registers.y ≤ l.n
+  pub own : (i : ℕ) → Numbered l i → Own l.n l.registers.x l.registers.y i (flag_of l i) (place_of l i)
+  pub pair : (i k : ℕ) → Numbered l i → Numbered l k → (i ≢ k) → Pair l.registers.x l.registers.y i k (flag_of l i) (place_of l i) (place_of l k)

@@ -2,8 +2,7 @@
 use Rattle.std.specs.Prelude.{◌≡◌, ℕ, ◌≢◌, refl}
 use Rattle.std.proofs.Common.{sym, ⊎_elim, length-set}
 use Rattle.std.proofs.lemmas.Bool.{cases_eq}
-use Rattle.fast.specs.declared.Fast.{Fast}
-use Rattle.fast.specs.Registers.{place_of, flag_of}
+use Rattle.fast.specs.Plan.{Fast, place_of, flag_of}
 use Rattle.fast.specs.Sound.{Numbered, Own, Pair, Sound}
 use Rattle.fast.specs.Moves.{Outcome, put, Move}
 use Rattle.fast.specs.Put.{place_here, flag_here, place_there, flag_there}

@@ -4,22 +4,21 @@ use Rattle.std.specs.Prelude.{◌≡◌, ℕ, ◌≤◌, Bool, ◌≢◌}
 use Rattle.std.proofs.Common.{arith}
 use Rattle.std.proofs.lemmas.Bool.Decides.{nat_tests}
 use Rattle.fast.specs.declared.place.Place.{Place}
-use Rattle.fast.specs.declared.Fast.{Fast}
-use Rattle.fast.specs.Registers.{flag_of}
+use Rattle.fast.specs.Plan.{Fast, flag_of}
 use Rattle.fast.specs.Sound.{Own, Pair}
 use Rattle.fast.specs.Moves.{Outcome, Move}
 
 pub record Steps (l : Fast) (i : ℕ) (p : Place) (w : Outcome) : Type 0 where
-  pub y_named : i ≤ l.n → l.y ≤ l.n → w.y ≤ l.n
-  pub own_moved : 1 ≤ i → 1 ≤ l.n → Own l.n l.x l.y i (flag_of l i) p → Own l.n w.x w.y i w.flag w.place
+  pub y_named : i ≤ l.n → l.registers.y ≤ l.n → w.y ≤ l.n
+  pub own_moved : 1 ≤ i → 1 ≤ l.n → Own l.n l.registers.x l.registers.y i (flag_of l i) p → Own l.n w.x w.y i w.flag w.place
   pub pair_kept : (k : ℕ) → 1 ≤ i → 1 ≤ k → k ≤ l.n → (k ≢ i) → (f : Bool) (q : Place) (j : ℕ) (r : Place) → (j ≢ i) →
-      Pair l.x l.y k j f q r → Pair w.x w.y k j f q r
-  pub own_kept : (k : ℕ) → 1 ≤ i → 1 ≤ k → k ≤ l.n → (k ≢ i) → (f : Bool) (q : Place) → flag_of l k ≡ f → Own l.n l.x l.y i (flag_of l i) p →
-      Own l.n l.x l.y k f q → Pair l.x l.y i k (flag_of l i) p q → Pair l.x l.y k i f q p → Own l.n w.x w.y k f q
-  pub pair_from : (k : ℕ) → 1 ≤ i → 1 ≤ k → k ≤ l.n → (k ≢ i) → (f : Bool) (q : Place) → flag_of l k ≡ f → Own l.n l.x l.y i (flag_of l i) p →
-      Own l.n l.x l.y k f q → Pair l.x l.y i k (flag_of l i) p q → Pair l.x l.y k i f q p → Pair w.x w.y i k w.flag w.place q
-  pub pair_to : (k : ℕ) → 1 ≤ i → 1 ≤ k → k ≤ l.n → (k ≢ i) → (f : Bool) (q : Place) → flag_of l k ≡ f → Own l.n l.x l.y i (flag_of l i) p →
-      Own l.n l.x l.y k f q → Pair l.x l.y i k (flag_of l i) p q → Pair l.x l.y k i f q p → Pair w.x w.y k i f q w.place
+      Pair l.registers.x l.registers.y k j f q r → Pair w.x w.y k j f q r
+  pub own_kept : (k : ℕ) → 1 ≤ i → 1 ≤ k → k ≤ l.n → (k ≢ i) → (f : Bool) (q : Place) → flag_of l k ≡ f → Own l.n l.registers.x l.registers.y i (flag_of l i) p →
+      Own l.n l.registers.x l.registers.y k f q → Pair l.registers.x l.registers.y i k (flag_of l i) p q → Pair l.registers.x l.registers.y k i f q p → Own l.n w.x w.y k f q
+  pub pair_from : (k : ℕ) → 1 ≤ i → 1 ≤ k → k ≤ l.n → (k ≢ i) → (f : Bool) (q : Place) → flag_of l k ≡ f → Own l.n l.registers.x l.registers.y i (flag_of l i) p →
+      Own l.n l.registers.x l.registers.y k f q → Pair l.registers.x l.registers.y i k (flag_of l i) p q → Pair l.registers.x l.registers.y k i f q p → Pair w.x w.y i k w.flag w.place q
+  pub pair_to : (k : ℕ) → 1 ≤ i → 1 ≤ k → k ≤ l.n → (k ≢ i) → (f : Bool) (q : Place) → flag_of l k ≡ f → Own l.n l.registers.x l.registers.y i (flag_of l i) p →
+      Own l.n l.registers.x l.registers.y k f q → Pair l.registers.x l.registers.y i k (flag_of l i) p q → Pair l.registers.x l.registers.y k i f q p → Pair w.x w.y k i f q w.place
 
 -- the premise of what follows from it, so that nothing but the law itself rests on the proof
 abbrev pub EveryStep : Type 0

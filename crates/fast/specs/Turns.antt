@@ -1,13 +1,7 @@
--- A turn: the one access that the place makes, and then the next place, by the place and the value that went over the bus.
-use Rattle.std.specs.Prelude.{ℕ, ◌+◌, false, cond, ◌||◌, replicate, Some, None, Ok, Err, Option, Result, ◌==◌, nat_lt}
-use Rattle.bus.specs.declared.Access.{Access}
-use Rattle.lock.specs.declared.count.WrongStationCount.{WrongStationCount}
-use Rattle.fast.specs.declared.register.Register.{Register}
+-- Where a turn leads, by the place and the value that went over the bus.
+use Rattle.std.specs.Prelude.{ℕ, ◌+◌, cond, ◌==◌, nat_lt}
 use Rattle.fast.specs.declared.place.Place.{Place}
 use Rattle.fast.specs.declared.place.Place.TheVariants.{Idle, Raise, Announce, Glance, Retreat, Await, Claim, Confirm, Lower, Scan, Recheck, Retry, Within, Release, Clear}
-use Rattle.fast.specs.declared.Fast.{Fast}
-use Rattle.fast.specs.Places.{access_at}
-use Rattle.fast.specs.Registers.{place_of, with_place, performed, carried}
 
 -- after the flag of j, which is lowered: the next flag, or on from the last
 abbrev pub scan_after : ℕ → ℕ → Place
@@ -30,18 +24,3 @@ next n i Retry v = cond (v == 0) Raise Retry
 next n i Within v = Within
 next n i Release v = Clear
 next n i Clear v = Idle
-
--- from a place, by its one access: the access, and the place after it; nothing where there is no access to make
-abbrev pub stepped : Fast → ℕ → Place → Option (Access Register ℕ) → Fast
-stepped l i p None = l
-stepped l i p (Some a) = with_place (performed l a) i (next l.n i p (carried l a))
-
-abbrev pub turned : Fast → ℕ → Fast
-turned l i = stepped l i (place_of l i) (access_at i (place_of l i))
-
--- all at rest, with X and Y free and the flags lowered
-abbrev pub fresh : ℕ → Fast
-fresh n = record { n = n; x = 0; y = 0; flags = replicate 16 false; places = replicate 16 Idle }
-
-abbrev pub made_for : ℕ → Result Fast WrongStationCount
-made_for n = cond (n == 0 || nat_lt 16 n) (Err (record {})) (Ok (fresh n))

@@ -1,7 +1,15 @@
 ghost use Rattle.std.specs.Prelude.{◌≡◌};
-ghost use Rattle.fast.specs.Places.{stage_at, access_at};
+ghost use Rattle.fast.specs.Turns.{scan_after};
+ghost use Rattle.fast.specs.Plan.{fast_plan};
+ghost use Rattle.fast.specs.Meaning.{fast_claims};
+ghost use Rattle.fast.specs.Law;
+ghost use Rattle.fast.specs.Steps.{steps};
+ghost use Rattle.fast.specs.Ways.{ways};
 
 use crate::register::Register;
+use crate::shared::Shared;
+use algorithm::Algorithm;
+use algorithm::flags::Flags;
 use bus::Access;
 use lock::stage::Stage;
 
@@ -40,10 +48,51 @@ pub enum Place {
     Clear,
 }
 
-impl Place {
-    pub fn stage(self) -> Stage
-        ensures { result ≡ stage_at self }
-    {
+// Where a station goes among n that has found the flag of j lowered: to the next flag, or on from the last.
+fn scan_after(n: usize, j: usize) -> Place
+    ensures { result ≡ scan_after n j }
+{
+    if j < n {
+        Place::Scan(j + 1)
+    } else {
+        Place::Recheck
+    }
+}
+
+impl Algorithm for Place {
+    type Registers = Shared;
+
+    ghost plan = { fast_plan };
+
+    ghost claims = { fast_claims };
+
+    ghost coherent = { Law.coherent };
+
+    ghost lawful = { Law.lawful steps ways };
+
+    ghost starts = { Law.starts };
+
+    fn idle() -> Place {
+        Place::Idle
+    }
+
+    fn entry() -> Place {
+        Place::Raise
+    }
+
+    fn exit() -> Place {
+        Place::Release
+    }
+
+    fn registers() -> Shared {
+        Shared {
+            x: 0,
+            y: 0,
+            flags: Flags::down(),
+        }
+    }
+
+    fn stage(self) -> Stage {
         match self {
             Place::Idle => Stage::Rest,
             Place::Within => Stage::Inside,
@@ -52,10 +101,7 @@ impl Place {
         }
     }
 
-    // The one access that a station makes here; none at rest and none inside.
-    pub fn access(self, station: usize) -> Option<Access<Register, usize>>
-        ensures { result ≡ access_at station self }
-    {
+    fn access(self, station: usize) -> Option<Access<Register, usize>> {
         match self {
             Place::Idle | Place::Within => None,
             Place::Raise => Some(Access::Write(Register::Flag(station), 1)),
@@ -72,5 +118,31 @@ impl Place {
             )),
             Place::Release => Some(Access::Write(Register::Y, 0)),
         }
+    }
+
+    fn turn(&mut self, n: usize, station: usize, value: usize) {
+        *self = match (*self, value) {
+            (Place::Idle, _) => Place::Idle,
+            (Place::Raise, _) => Place::Announce,
+            (Place::Announce, _) => Place::Glance,
+            (Place::Glance, 0) => Place::Claim,
+            (Place::Glance, _) => Place::Retreat,
+            (Place::Retreat, _) => Place::Await,
+            (Place::Await, 0) => Place::Raise,
+            (Place::Await, _) => Place::Await,
+            (Place::Claim, _) => Place::Confirm,
+            (Place::Confirm, last) if last == station => Place::Within,
+            (Place::Confirm, _) => Place::Lower,
+            (Place::Lower, _) => Place::Scan(1),
+            (Place::Scan(j), 0) => scan_after(n, j),
+            (Place::Scan(j), _) => Place::Scan(j),
+            (Place::Recheck, owner) if owner == station => Place::Within,
+            (Place::Recheck, _) => Place::Retry,
+            (Place::Retry, 0) => Place::Raise,
+            (Place::Retry, _) => Place::Retry,
+            (Place::Within, _) => Place::Within,
+            (Place::Release, _) => Place::Clear,
+            (Place::Clear, _) => Place::Idle,
+        };
     }
 }
