@@ -72,16 +72,16 @@ impl Algorithm for Place {
 
     ghost starts = { Law.starts };
 
-    fn idle() -> Place {
-        Place::Idle
+    fn idle() -> Self {
+        Self::Idle
     }
 
-    fn entry() -> Place {
-        Place::Raise
+    fn entry() -> Self {
+        Self::Raise
     }
 
-    fn exit() -> Place {
-        Place::Release
+    fn exit() -> Self {
+        Self::Release
     }
 
     fn registers() -> Shared {

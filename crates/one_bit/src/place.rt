@@ -67,16 +67,16 @@ impl Algorithm for Place {
 
     ghost starts = { Law.starts };
 
-    fn idle() -> Place {
-        Place::Idle
+    fn idle() -> Self {
+        Self::Idle
     }
 
-    fn entry() -> Place {
-        Place::Raise
+    fn entry() -> Self {
+        Self::Raise
     }
 
-    fn exit() -> Place {
-        Place::Lower
+    fn exit() -> Self {
+        Self::Lower
     }
 
     fn registers() -> Shared {
