@@ -1,4 +1,5 @@
 pub mod Numbers
+pub mod Words
 pub mod Stages
 pub mod Places
 pub mod Meaning

@@ -1,5 +1,5 @@
 -- The stages of N stations as a list, station 1 first.
-use Rattle.std.specs.Prelude.{◌≡◌, ℕ, zero, suc, ◌≤◌, Bool, true, false, List, [], ◌∷◌, length, Some, None, Option, ◌≢◌, slice_set}
+use Rattle.std.specs.Prelude.{◌≡◌, ℕ, zero, suc, ◌≤◌, Bool, true, false, List, length, Some, None, Option, ◌≢◌, slice_get, slice_set}
 use Rattle.lock.specs.declared.stage.Stage.{Stage}
 use Rattle.lock.specs.declared.stage.Stage.TheVariants.{Rest, Trying, Inside, Leaving}
 
@@ -7,16 +7,10 @@ use Rattle.lock.specs.declared.stage.Stage.TheVariants.{Rest, Trying, Inside, Le
 abbrev pub Station : List Stage → ℕ → Type 0
 Station s i = (1 ≤ i) × (i ≤ length s)
 
--- what stands at an index counted from 0, if anything
-abbrev pub nth : List Stage → ℕ → Option Stage
-nth [] k = None
-nth (x ∷ xs) zero = Some x
-nth (x ∷ xs) (suc k) = nth xs k
-
 -- the answer to the stage question: a station's stage, or nothing for a number that is no station's
 abbrev pub asked : List Stage → ℕ → Option Stage
 asked s zero = None
-asked s (suc k) = nth s k
+asked s (suc k) = slice_get s k
 
 -- the list after one station's stage is altered
 abbrev pub moved : List Stage → ℕ → Stage → List Stage

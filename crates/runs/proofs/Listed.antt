@@ -1,12 +1,13 @@
 -- A list of stages that has at each place the stage that the events tell is the list of the stages told.
 use Rattle.std.proofs.Common.{◌≡◌, ℕ, suc, ◌+◌, ◌<◌, ◌≤◌, List, [], ◌∷◌, length, Some, refl, ap, ◌∙◌, arith}
 use Rattle.lock.specs.declared.stage.Stage.{Stage}
-use Rattle.lock.specs.Stages.{nth, asked}
+use Rattle.std.specs.List.{slice_get}
+use Rattle.lock.specs.Stages.{asked}
 use Rattle.runs.specs.declared.events.Event.{Event}
 use Rattle.runs.specs.Told.{told, stages_from}
 
 module _ (es : List Event) where
-  told_from-on : (s : List Stage) (i : ℕ) → ((k : ℕ) → k < length s → nth s k ≡ Some (told es (i + k))) → s ≡ stages_from es i (length s)
+  told_from-on : (s : List Stage) (i : ℕ) → ((k : ℕ) → k < length s → slice_get s k ≡ Some (told es (i + k))) → s ≡ stages_from es i (length s)
   told_from-on [] i h = refl
   told_from-on (x ∷ s) i h =
       let first = h 0 (omega arith) in

@@ -2,12 +2,13 @@
 use Rattle.std.proofs.Common.{◌≡◌, ℕ, zero, suc, ◌+◌, ◌<◌, Bool, false, List, [], ◌∷◌, length, set, Some, refl, ap, arith}
 use Rattle.lock.specs.declared.stage.Stage.{Stage}
 use Rattle.lock.specs.declared.stage.Stage.TheVariants.{Rest}
-use Rattle.lock.specs.Stages.{nth, asked, moved, AllRest}
+use Rattle.std.specs.List.{slice_get}
+use Rattle.lock.specs.Stages.{asked, moved, AllRest}
 use Rattle.runs.specs.Told.{bit, tally}
 use Rattle.runs.proofs.Tests.{never}
 
 module _ (p : Stage → Bool) where
-  tally-set : (s : List Stage) (k : ℕ) (x y : Stage) → nth s k ≡ Some x → tally p (set s k y) + bit (p x) ≡ tally p s + bit (p y)
+  tally-set : (s : List Stage) (k : ℕ) (x y : Stage) → slice_get s k ≡ Some x → tally p (set s k y) + bit (p x) ≡ tally p s + bit (p y)
   tally-set [] k x y e = never (cc)
   tally-set (w ∷ s) zero x y e = let d : w ≡ x = cc in let b = ap (λ v. bit (p v)) d in omega arith
   tally-set (w ∷ s) (suc k) x y e = let r = tally-set s k x y e in omega arith
@@ -17,7 +18,7 @@ module _ (p : Stage → Bool) where
   tally-moved s (suc k) x y e = tally-set s k x y e
 
   module _ (not_at_rest : p Rest ≡ false) where
-    tally_rest : (s : List Stage) → ((k : ℕ) → k < length s → nth s k ≡ Some Rest) → tally p s ≡ 0
+    tally_rest : (s : List Stage) → ((k : ℕ) → k < length s → slice_get s k ≡ Some Rest) → tally p s ≡ 0
     tally_rest [] h = refl
     tally_rest (x ∷ s) h =
         let first = h 0 (omega arith) in
