@@ -1,20 +1,22 @@
 -- A station that is alone climbs: each turn is one fewer to come. To leave, it goes from place to place.
-use Rattle.std.proofs.Common.{◌≡◌, ℕ, zero, suc, ◌+◌, ◌<◌, ◌≤◌, false, ◌⊎◌, length, Some, ◌≢◌, sym, ap, ◌∙◌, arith}
+use Rattle.std.proofs.Common.{◌≡◌, ℕ, zero, suc, ◌+◌, ◌<◌, ◌≤◌, false, ◌⊎◌, Some, ◌≢◌, ap, ◌∙◌, arith}
 use Rattle.std.proofs.lemmas.Bool.Decides.{nat_tests}
 use Rattle.lock.specs.declared.stage.Stage.TheVariants.{Rest, Trying, Inside, Leaving}
 use Rattle.lock.specs.Stages.{Station, asked, OthersRest, AllRest}
 use Rattle.lock.specs.Meaning.{turns, Exactly}
+use Rattle.lock.proofs.Exact.{others_moved, Ascent, waits, enters}
+use Rattle.lock.proofs.Places.{moved_place}
 use Rattle.fast.specs.declared.place.Place.{Place}
 use Rattle.fast.specs.declared.place.Place.TheVariants.{Idle, Raise, Announce, Glance, Retreat, Await, Claim, Confirm, Lower, Scan, Recheck, Retry, Within, Release, Clear}
 use Rattle.fast.specs.Places.{stage_at, access_at, to_come}
 use Rattle.algorithm.specs.Turns as by
-use Rattle.algorithm.proofs.Stations.{length_stages, asked_at, numbered}
+use Rattle.algorithm.proofs.Stations.{asked_at, numbered}
 use Rattle.algorithm.proofs.Laws.{begun_at, ended_at}
 use Rattle.fast.specs.Plan.{Fast, fast_plan, place_of, flag_of, stages, turned}
 use Rattle.fast.specs.Sound.{Numbered, Own, Sound}
 use Rattle.fast.specs.Meaning.{left, fast_meaning}
 use Rattle.fast.specs.Moves.{Outcome, put, going, outcome, Move}
-use Rattle.fast.specs.Put.{place_here, place_there}
+use Rattle.fast.specs.Put.{place_here}
 use Rattle.fast.specs.Steps.{steps}
 use Rattle.fast.specs.Soundness.{put_sound}
 use Rattle.fast.specs.Calls.{after, turned_put, turned_move, begun_put, begun_move, ended_put, ended_move}
@@ -83,16 +85,12 @@ alone_inside l i a e = asked_alone l i a ∙ ap Some (climbs_inside l.n l.regist
 -- after a move the others rest as they did
 module _ (l : Fast) (s : Sound l) (i : ℕ) (h : Numbered l i) (w : Outcome) (m : Move l i (place_of l i) w) where
   others_put : OthersRest (stages l) i → OthersRest (stages (put l i w)) i
-  others_put o j t other =
-      let s' = put_sound steps l s i h w m in
-      let v : Numbered l j = (t.0, rw (length_stages fast_plan (put l i w) s'.places_fit) at t.1) in
-      let most : j ≤ length (stages l) = rw (length_stages fast_plan l s.places_fit) v.1 in
-      asked_at fast_plan (put l i w) s'.places_fit j v ∙ ap (λ q. Some (stage_at q)) (place_there l s i h w j v other) ∙ sym (asked_at fast_plan l s.places_fit j v) ∙ o j (t.0, most) other
+  others_put = others_moved (stages l) (stages (put l i w)) i (stage_at w.place) (moved_place stage_at l.n l.places i w.place h.0)
 
   alone_put : OthersRest (stages l) i → Climbs w.x i (place_of (put l i w) i) → Alone (put l i w) i
   alone_put o c = record { sound = put_sound steps l s i h w m; here = h; others = others_put o; climbs = c }
 
--- one turn, and many
+-- one turn
 climb : (l : Fast) (i : ℕ) → Alone l i → 0 < left l i → Alone (turned l i) i × (left (turned l i) i + 1 ≡ left l i)
 climb l i a t =
     let s = a.sound in
@@ -102,13 +100,6 @@ climb l i a t =
     let trying = climbs_trying l.n l.registers.x l.registers.y i (place_of l i) a.climbs t in
     let c = lone_climbs l s i a.others h w m trying a.climbs in
     rw (turned_put l i h) (alone_put l s i h w m a.others c.0, c.1)
-
-climb_on : (k : ℕ) (l : Fast) (i : ℕ) → Alone l i → k ≤ left l i → Alone (turns fast_meaning k l i) i × (left (turns fast_meaning k l i) i + k ≡ left l i)
-climb_on zero l i a m = (a, omega arith)
-climb_on (suc k) l i a m =
-    let one = climb l i a (omega arith) in
-    let more = climb_on k (turned l i) i one.0 (omega arith) in
-    (more.0, omega arith)
 
 -- it begins with 5 turns to come
 begins_alone : (l : Fast) (i : ℕ) → Sound l → AllRest (stages l) → Station (stages l) i → Alone (begun l i) i × (left (begun l i) i ≡ 5)
@@ -157,16 +148,13 @@ leaving zero l i s a m = asked_there (ended l i) i Release (releases l i s a)
 leaving (suc zero) l i s a m = asked_there (turned (ended l i) i) i Clear (clears l i s a)
 leaving (suc (suc k)) l i s a m = absurd (omega arith)
 
+ascent : Ascent fast_meaning (λ _. 5)
+ascent = record { Alone = Alone; begins = begins_alone; climbs = climb; tries = alone_trying; arrives = alone_inside }
+
 pub exactly : Exactly fast_meaning (λ _. 5) (λ _. 2)
 exactly = record {
-  waits = λ l i k s r t m.
-      let b = begins_alone l i s r t in
-      let c = climb_on k (begun l i) i b.0 (omega arith) in
-      alone_trying (turns fast_meaning k (begun l i) i) i c.0 (omega arith);
-  enters = λ l i s r t.
-      let b = begins_alone l i s r t in
-      let c = climb_on 5 (begun l i) i b.0 (omega arith) in
-      alone_inside (turns fast_meaning 5 (begun l i) i) i c.0 (omega arith);
+  waits = λ l i k s r t. waits fast_meaning (λ _. 5) ascent l i s r t k;
+  enters = λ l i s r t. enters fast_meaning (λ _. 5) ascent l i s r t;
   stays = λ l i k s a m. leaving k l i s a m;
   rests = λ l i s a. asked_there (turned (turned (ended l i) i) i) i Idle (rests l i s a);
 }

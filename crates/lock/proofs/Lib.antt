@@ -3,3 +3,4 @@ pub mod Moves
 pub mod Places
 pub mod Stations
 pub mod InTime
+pub mod Exact

@@ -1,8 +1,10 @@
 -- A station that is alone climbs: each turn is one fewer to come.
-use Rattle.std.proofs.Common.{◌≡◌, ℕ, zero, suc, ◌+◌, ◌<◌, ◌≤◌, length, Some, sym, ap, ◌∙◌, arith}
+use Rattle.std.proofs.Common.{◌≡◌, ℕ, zero, suc, ◌+◌, ◌<◌, length, Some, ap, ◌∙◌, arith}
 use Rattle.lock.specs.declared.stage.Stage.TheVariants.{Rest, Trying, Inside, Leaving}
 use Rattle.lock.specs.Stages.{Station, asked, OthersRest, AllRest}
 use Rattle.lock.specs.Meaning.{turns, Exactly}
+use Rattle.lock.proofs.Exact.{others_moved, Ascent, waits, enters}
+use Rattle.lock.proofs.Places.{moved_place}
 use Rattle.one_bit.specs.declared.place.Place.{Place}
 use Rattle.one_bit.specs.declared.place.Place.TheVariants.{Idle, Raise, Lower}
 use Rattle.one_bit.specs.Places.{stage_at, to_come}
@@ -12,7 +14,7 @@ use Rattle.algorithm.proofs.Laws.{begun_at, ended_at}
 use Rattle.one_bit.specs.Plan.{OneBit, one_bit_plan, place_of, stages, turned}
 use Rattle.one_bit.specs.Sound.{Numbered, Sound}
 use Rattle.one_bit.specs.Meaning.{one_bit_meaning}
-use Rattle.one_bit.specs.Put.{put, place_here, place_other}
+use Rattle.one_bit.specs.Put.{put, place_here}
 use Rattle.one_bit.specs.Steps.{steps}
 use Rattle.one_bit.proofs.Next.{Climbs, climbs_trying, climbs_inside, next_climbs, next_nearer}
 use Rattle.one_bit.specs.Turn.{after, turned_put, turned_sound, alone_after}
@@ -42,10 +44,7 @@ module _ (l : OneBit) (s : Sound l) (i : ℕ) (h : Numbered l i) (p : Place) (s'
 
   -- the others rest as they did
   others_put : OthersRest (stages l) i → OthersRest (stages (put l i p)) i
-  others_put o j t d =
-      let w : Numbered l j = (t.0, rw (length_stages one_bit_plan (put l i p) s'.places_fit) at t.1) in
-      let m : j ≤ length (stages l) = rw (length_stages one_bit_plan l s.places_fit) w.1 in
-      asked_at one_bit_plan (put l i p) s'.places_fit j w ∙ ap (λ q. Some (stage_at q)) (place_other l s i h p j w d) ∙ sym (asked_at one_bit_plan l s.places_fit j w) ∙ o j (t.0, m) d
+  others_put = others_moved (stages l) (stages (put l i p)) i (stage_at p) (moved_place stage_at l.n l.places i p h.0)
 
   alone_put : OthersRest (stages l) i → Climbs p → Alone (put l i p) i
   alone_put o c = record { sound = s'; here = h; others = others_put o; climbs = rw (place_here l s i h p) c }
@@ -60,7 +59,7 @@ alone_inside l i a e =
     let h = a.here in
     asked_at one_bit_plan l s.places_fit i h ∙ ap Some (climbs_inside l.n i s.most h.0 h.1 (place_of l i) (s.ranged i h) a.climbs e)
 
--- one turn, and many
+-- one turn
 climb : (l : OneBit) (i : ℕ) → Alone l i → 0 < left l i → Alone (turned l i) i × (left (turned l i) i + 1 ≡ left l i)
 climb l i a m =
     let s = a.sound in
@@ -71,14 +70,6 @@ climb l i a m =
       rw e (alone_put l s i h (after l i) (turned_sound steps l s i h) a.others (rw f (next_climbs l.n i s.most h.0 h.1 p a.climbs))),
       rw (e, place_here l s i h (after l i), f) (next_nearer l.n i s.most h.0 h.1 p (s.ranged i h) a.climbs m),
     )
-
-climb_on : (k : ℕ) (l : OneBit) (i : ℕ) → Alone l i → k ≤ left l i →
-    Alone (turns one_bit_meaning k l i) i × (left (turns one_bit_meaning k l i) i + k ≡ left l i)
-climb_on zero l i a m = (a, omega arith)
-climb_on (suc k) l i a m =
-    let one = climb l i a (omega arith) in
-    let more = climb_on k (turned l i) i one.0 (omega arith) in
-    (more.0, omega arith)
 
 -- it begins with as many turns to come as there are stations
 begins_alone : (l : OneBit) (i : ℕ) → Sound l → AllRest (stages l) → Station (stages l) i → Alone (begun l i) i × (left (begun l i) i ≡ length (stages l))
@@ -97,17 +88,13 @@ rested l i s a =
     let e = lowered_put steps l i s a in
     rw e (asked-put l s i (numbered one_bit_plan l i Leaving a) Idle (rw e at (turned_kept steps l i s (numbered one_bit_plan l i Leaving a)).sound))
 
+ascent : Ascent one_bit_meaning (λ n. n)
+ascent = record { Alone = Alone; begins = begins_alone; climbs = climb; tries = alone_trying; arrives = alone_inside }
+
 pub exactly : Exactly one_bit_meaning (λ n. n) (λ _. 1)
 exactly = record {
-  waits = λ l i k s r t m.
-      let b = begins_alone l i s r t in
-      let c = climb_on k (begun l i) i b.0 (omega arith) in
-      alone_trying (turns one_bit_meaning k (begun l i) i) i c.0 (omega arith);
-  enters = λ l i s r t.
-      let n = length (stages l) in
-      let b = begins_alone l i s r t in
-      let c = climb_on n (begun l i) i b.0 (omega arith) in
-      alone_inside (turns one_bit_meaning n (begun l i) i) i c.0 (omega arith);
+  waits = λ l i k s r t. waits one_bit_meaning (λ n. n) ascent l i s r t k;
+  enters = λ l i s r t. enters one_bit_meaning (λ n. n) ascent l i s r t;
   stays = λ l i k s a m. leaving k l i s a m;
   rests = λ l i s a. rested (ended l i) i (rw (ended_at one_bit_plan l i a) (ended_kept l i s a).sound) (leaving 0 l i s a (omega arith));
 }
