@@ -8,13 +8,12 @@ use Rattle.lock.specs.Stages.{asked, OthersRest}
 use Rattle.lock.specs.Meaning.{Lawful}
 use Rattle.lock.specs.Fresh.{Fresh}
 use Rattle.algorithm.specs.Plan.{Coherent}
-use Rattle.algorithm.specs.Turns.{fresh}
 use Rattle.algorithm.proofs.Lowered.{down_at}
 use Rattle.algorithm.proofs.Stations.{numbered, stage_there}
 use Rattle.algorithm.proofs.Laws.{Particulars, lawful_by, idle_at, fresh_by}
 use Rattle.fast.specs.declared.place.Place.TheVariants.{Idle}
 use Rattle.fast.specs.Registers.{value_of, with_value}
-use Rattle.fast.specs.Plan.{Fast, fast_plan, place_of, flag_of, stages, turned}
+use Rattle.fast.specs.Plan.{Fast, fast_plan, fresh, place_of, flag_of, stages, turned}
 use Rattle.fast.specs.Sound.{Numbered, Own, Pair, Sound}
 use Rattle.fast.specs.Meaning.{left, fast_claims, fast_meaning}
 use Rattle.fast.specs.Steps.{EveryStep}
@@ -80,13 +79,13 @@ pair_idle : (i k : ℕ) → Pair 0 0 i k false Idle Idle
 pair_idle i k = grind arith
 
 module _ (n : ℕ) (least : 1 ≤ n) (most : n ≤ 16) where
-  idle : (i : ℕ) → Numbered (fresh fast_plan n) i → place_of (fresh fast_plan n) i ≡ Idle
+  idle : (i : ℕ) → Numbered (fresh n) i → place_of (fresh n) i ≡ Idle
   idle = idle_at fast_plan coherent n most
 
-  down : (i : ℕ) → Numbered (fresh fast_plan n) i → flag_of (fresh fast_plan n) i ≡ false
+  down : (i : ℕ) → Numbered (fresh n) i → flag_of (fresh n) i ≡ false
   down i h = down_at i (omega arith)
 
-  fresh_sound : Sound (fresh fast_plan n)
+  fresh_sound : Sound (fresh n)
   fresh_sound = record {
     least = least;
     most = most;
@@ -97,5 +96,5 @@ module _ (n : ℕ) (least : 1 ≤ n) (most : n ≤ 16) where
     pair = λ i k h v other. rw (down i h, idle i h, idle k v) (pair_idle i k);
   }
 
-  pub starts : Fresh fast_meaning n (fresh fast_plan n)
+  pub starts : Fresh fast_meaning n (fresh n)
   starts = fresh_by fast_plan coherent n most value_of with_value fast_claims fresh_sound

@@ -28,6 +28,10 @@ fast_plan = record {
 abbrev pub Fast : Type 0
 Fast = PlaceLock Place Shared
 
+-- all at rest
+abbrev pub fresh : ℕ → Fast
+fresh = by.fresh fast_plan
+
 abbrev pub place_of : Fast → ℕ → Place
 place_of = by.place_of fast_plan
 

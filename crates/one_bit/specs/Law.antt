@@ -8,13 +8,12 @@ use Rattle.lock.specs.Stages.{asked, OthersRest}
 use Rattle.lock.specs.Meaning.{Lawful}
 use Rattle.lock.specs.Fresh.{Fresh}
 use Rattle.algorithm.specs.Plan.{Coherent}
-use Rattle.algorithm.specs.Turns.{fresh}
 use Rattle.algorithm.proofs.Stations.{numbered, stage_there}
 use Rattle.algorithm.proofs.Laws.{Particulars, lawful_by, idle_at, fresh_by}
 use Rattle.one_bit.specs.declared.place.Place.TheVariants.{Idle, Lower}
 use Rattle.one_bit.specs.Places.{raised, to_come}
 use Rattle.one_bit.specs.Registers.{value_of, with_value}
-use Rattle.one_bit.specs.Plan.{OneBit, one_bit_plan, place_of, flag_of, stages, turned}
+use Rattle.one_bit.specs.Plan.{OneBit, one_bit_plan, fresh, place_of, flag_of, stages, turned}
 use Rattle.one_bit.specs.Sound.{Numbered, Sound}
 use Rattle.one_bit.specs.Meaning.{one_bit_claims, one_bit_meaning}
 use Rattle.one_bit.specs.Put.{put, place_here}
@@ -82,13 +81,13 @@ lawful steps = lawful_by one_bit_plan value_of with_value one_bit_claims coheren
 
 -- a fresh lock is sound
 module _ (n : ℕ) (least : 1 ≤ n) (most : n ≤ 16) where
-  idle : (i : ℕ) → Numbered (fresh one_bit_plan n) i → place_of (fresh one_bit_plan n) i ≡ Idle
+  idle : (i : ℕ) → Numbered (fresh n) i → place_of (fresh n) i ≡ Idle
   idle = idle_at one_bit_plan coherent n most
 
-  down : (i : ℕ) → Numbered (fresh one_bit_plan n) i → flag_of (fresh one_bit_plan n) i ≡ false
+  down : (i : ℕ) → Numbered (fresh n) i → flag_of (fresh n) i ≡ false
   down i h = let e = get_or-replicate 16 (i - 1) false false (omega arith) in grind arith
 
-  fresh_sound : Sound (fresh one_bit_plan n)
+  fresh_sound : Sound (fresh n)
   fresh_sound = record {
     least = least;
     most = most;
@@ -99,5 +98,5 @@ module _ (n : ℕ) (least : 1 ≤ n) (most : n ≤ 16) where
     apart = λ i k h w d. rw (idle i h) (λ a b. omega arith);
   }
 
-  pub starts : Fresh one_bit_meaning n (fresh one_bit_plan n)
+  pub starts : Fresh one_bit_meaning n (fresh n)
   starts = fresh_by one_bit_plan coherent n most value_of with_value one_bit_claims fresh_sound

@@ -28,6 +28,10 @@ one_bit_plan = record {
 abbrev pub OneBit : Type 0
 OneBit = PlaceLock Place Shared
 
+-- all at rest
+abbrev pub fresh : ℕ → OneBit
+fresh = by.fresh one_bit_plan
+
 abbrev pub place_of : OneBit → ℕ → Place
 place_of = by.place_of one_bit_plan
 
