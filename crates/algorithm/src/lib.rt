@@ -17,6 +17,11 @@ use lock::stage::Stage;
 
 pub mod flags;
 
+// The names of an algorithm's registers, and what they hold.
+pub type Name<P> = <<P as Algorithm>::Registers as Registers>::Name;
+
+pub type Value<P> = <<P as Algorithm>::Registers as Registers>::Value;
+
 // An algorithm, as the place of one station: what it does there, and where it goes.
 pub trait Algorithm: Copy {
     type Registers: Registers + Drop;
@@ -45,14 +50,11 @@ pub trait Algorithm: Copy {
         ensures { result ≡ plan.stage_at self };
 
     // The one access that a station makes here; none at rest and none inside.
-    fn access(
-        self,
-        station: usize,
-    ) -> Option<Access<<Self::Registers as Registers>::Name, <Self::Registers as Registers>::Value>>
+    fn access(self, station: usize) -> Option<Access<Name<Self>, Value<Self>>>
         ensures { result ≡ plan.access_at station self };
 
     // Goes to the next place of a station among n, by the value that went over the bus.
-    fn turn(&mut self, n: usize, station: usize, value: <Self::Registers as Registers>::Value)
+    fn turn(&mut self, n: usize, station: usize, value: Value<Self>)
         ensures { self.new ≡ plan.next n station self.old value };
 
     // a station at rest or inside has no access to make, and any other has one
@@ -113,20 +115,14 @@ impl<P: Algorithm> PlaceLock<P, P::Registers> {
     }
 
     // The access that the station's next turn makes; none for one at rest or inside, or for a number that is no station's.
-    pub fn next_access(
-        &self,
-        station: usize,
-    ) -> Option<Access<<P::Registers as Registers>::Name, <P::Registers as Registers>::Value>>
+    pub fn next_access(&self, station: usize) -> Option<Access<Name<P>, Value<P>>>
         ensures { result ≡ P.plan.access_at station (place_of P.plan self.now station) }
     {
         self.place(station).access(station)
     }
 
     // What stands in a register. To look at it is no access.
-    pub fn read(
-        &self,
-        register: <P::Registers as Registers>::Name,
-    ) -> <P::Registers as Registers>::Value
+    pub fn read(&self, register: Name<P>) -> Value<P>
         ensures { result ≡ P.Registers.value_of self.now.registers register }
     {
         self.registers.read(register)

@@ -1,13 +1,13 @@
 -- The laws that the lock owes.
-use Rattle.std.specs.Prelude.{◌≡◌, ℕ, ◌-◌, ◌<◌, ◌≤◌, false, Some, refl}
+use Rattle.std.specs.Prelude.{◌≡◌, ℕ, ◌<◌, ◌≤◌, false, Some, refl}
 use Rattle.std.proofs.Common.{sym, ap, ◌∙◌, arith}
-use lib.ListN.{get_or-replicate}
 use Rattle.std.proofs.lemmas.Bool.{cases_eq}
 use Rattle.lock.specs.declared.stage.Stage.TheVariants.{Trying, Inside, Leaving}
 use Rattle.lock.specs.Stages.{asked, OthersRest}
 use Rattle.lock.specs.Meaning.{Lawful}
 use Rattle.lock.specs.Fresh.{Fresh}
 use Rattle.algorithm.specs.Plan.{Coherent}
+use Rattle.algorithm.proofs.Lowered.{down_at}
 use Rattle.algorithm.proofs.Stations.{numbered, stage_there}
 use Rattle.algorithm.proofs.Laws.{Particulars, lawful_by, idle_at, fresh_by}
 use Rattle.one_bit.specs.declared.place.Place.TheVariants.{Idle, Lower}
@@ -85,7 +85,7 @@ module _ (n : ℕ) (least : 1 ≤ n) (most : n ≤ 16) where
   idle = idle_at one_bit_plan coherent n most
 
   down : (i : ℕ) → Numbered (fresh n) i → flag_of (fresh n) i ≡ false
-  down i h = let e = get_or-replicate 16 (i - 1) false false (omega arith) in grind arith
+  down i h = down_at i (omega arith)
 
   fresh_sound : Sound (fresh n)
   fresh_sound = record {
