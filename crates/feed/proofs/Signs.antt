@@ -9,7 +9,7 @@ use Rattle.feed.specs.declared.board.Register.TheVariants.{Signer}
 use Rattle.feed.specs.declared.job.Job.TheVariants.{Sign}
 use Rattle.feed.specs.declared.job.Verdict.TheVariants.{Done, SetpointDiffers}
 use Rattle.feed.specs.declared.task.Task.TheVariants.{SignReadSetpoint, SignWriteSigner}
-use Rattle.feed.specs.declared.task.Progress.TheVariants.{Going, Finished}
+use Rattle.std.specs.declared.ops.ControlFlow.TheVariants.{Continue, Break}
 use Rattle.feed.proofs.Places.{at, settled_bounded, settled_fit}
 
 module _ {start n i a k w : ℕ} {es : List ℤ} (S : Settled start n a k w es) (l : i ≤ n) (v : ℤ) where
@@ -22,7 +22,7 @@ module _ {start n i a k w : ℕ} {es : List ℤ} (S : Settled start n a k w es) 
   by_test : (t : Bool) → same (pos a) v ≡ t → Course start n i old (Sign v) (cond t (outcome (write old Signer (pos i)) Done 2) (outcome old SetpointDiffers 1))
   by_test true e =
       let w1 : walk i 1 (going (SignReadSetpoint v) old) ≡ going SignWriteSigner old =
-      ap (λ t. on (cond t (Going SignWriteSigner) (Finished SetpointDiffers)) old) e in
+      ap (λ t. on (cond t (Continue SignWriteSigner) (Break SetpointDiffers)) old) e in
       record {
         underway =
             below_more Under 1 (below_more Under 0 (below_none Under) (at (SignReadSetpoint v) refl (settled_bounded S)))
@@ -40,7 +40,7 @@ module _ {start n i a k w : ℕ} {es : List ℤ} (S : Settled start n a k w es) 
   by_test false e =
       record {
         underway = below_more Under 0 (below_none Under) (at (SignReadSetpoint v) refl (settled_bounded S));
-        ends = ap (λ t. on (cond t (Going SignWriteSigner) (Finished SetpointDiffers)) old) e;
+        ends = ap (λ t. on (cond t (Continue SignWriteSigner) (Break SetpointDiffers)) old) e;
         fit = settled_fit S;
       }
 

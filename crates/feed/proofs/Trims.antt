@@ -13,7 +13,7 @@ use Rattle.feed.specs.declared.job.Job.TheVariants.{Trim}
 use Rattle.feed.specs.declared.job.Verdict.{Verdict}
 use Rattle.feed.specs.declared.job.Verdict.TheVariants.{Done, PileFull, OverCeiling}
 use Rattle.feed.specs.declared.task.Task.TheVariants.{TrimReadSetpoint, TrimReadDepth, TrimWriteEntry, TrimWriteDepth, TrimWriteSetpoint, TrimClearSigner}
-use Rattle.feed.specs.declared.task.Progress.TheVariants.{Going, Finished}
+use Rattle.std.specs.declared.ops.ControlFlow.TheVariants.{Continue, Break}
 use Rattle.feed.proofs.Differences.{Trimmed, trimmed}
 use Rattle.feed.proofs.Entries.{entry-written}
 use Rattle.feed.proofs.Piles.{undoable_push}
@@ -36,12 +36,12 @@ module _ (i : ℕ) {start n a k w : ℕ} {es : List ℤ} (S : Settled start n a 
       below_more Under 1 (below_more Under 0 (below_none Under) (at (TrimReadSetpoint p) refl (settled_bounded S)))
       (at (TrimReadDepth p (pos a)) refl (settled_bounded S))
 
-  refused : (v : Verdict) → judged p (pos a) (pos k) ≡ Finished v → Course start n i old (Trim p) (outcome old v 2)
+  refused : (v : Verdict) → judged p (pos a) (pos k) ≡ Break v → Course start n i old (Trim p) (outcome old v 2)
   refused v e = record { underway = reads; ends = ap (λ g. on g old) e; fit = settled_fit S }
 
   -- b is the new setpoint
   trims : (d : ℤ) (b : ℕ) → pos a +ℤ d ≡ pos b → b ≤ ceiling → k < most_entries →
-      judged p (pos a) (pos k) ≡ Going (TrimWriteEntry (pos (suc k)) d (pos b)) → Course start n i old (Trim p) (outcome (pushed old d) Done 6)
+      judged p (pos a) (pos k) ≡ Continue (TrimWriteEntry (pos (suc k)) d (pos b)) → Course start n i old (Trim p) (outcome (pushed old d) Done 6)
   trims d b e most less j =
       let fs : List ℤ = set es k d in
       let w2 : walk i 2 begin ≡ going (TrimWriteEntry (pos (suc k)) d (pos b)) old = ap (λ g. on g old) j in
@@ -87,7 +87,7 @@ module _ (i : ℕ) {start n a k w : ℕ} {es : List ℤ} (S : Settled start n a 
       let one : k + 1 ≡ suc k = omega arith in
       trims d T.to T.sum (ltb-false ceiling T.to low) (omega arith)
       (T.judges (pos k) ∙ cond-false (leb 64 k) _ _ (lt-leb 64 k (omega arith)) ∙ cond-false (ltb ceiling T.to) _ _ low ∙
-      ap (λ x. Going (TrimWriteEntry (pos x) d (pos T.to))) one)
+      ap (λ x. Continue (TrimWriteEntry (pos x) d (pos T.to))) one)
 
   pub trim_course : nat_abs p ≤ 200 → Course start n i old (Trim p) (whole i old (Trim p))
   trim_course h = by_tests (trimmed a p S.setpoint_most h) _ _ refl refl

@@ -11,7 +11,7 @@ use Rattle.feed.specs.declared.board.Board.{Board}
 use Rattle.feed.specs.declared.job.Job.TheVariants.{Undo}
 use Rattle.feed.specs.declared.job.Verdict.TheVariants.{Done, NothingToUndo}
 use Rattle.feed.specs.declared.task.Task.TheVariants.{UndoReadDepth, UndoReadEntry, UndoReadSetpoint, UndoWriteDepth, UndoWriteSetpoint, UndoClearSigner}
-use Rattle.feed.specs.declared.task.Progress.TheVariants.{Going, Finished}
+use Rattle.std.specs.declared.ops.ControlFlow.TheVariants.{Continue, Break}
 use Rattle.feed.proofs.Differences.{unsaturated}
 use Rattle.feed.proofs.Entries.{entry_read}
 use Rattle.feed.proofs.Changes.{popped-made}
@@ -33,7 +33,7 @@ module _ (i : ℕ) {start n a j w : ℕ} {es : List ℤ} (S : Settled start n a 
       let total : saturate_to_bits 31 (pos a -ℤ d) ≡ pos b = ap (saturate_to_bits 31) e ∙ unsaturated (pos b) (omega arith) in
       let s : Doing = going UndoReadDepth old in
       let w1 : walk i 1 s ≡ going (UndoReadEntry (pos (suc j)) (pos j)) old =
-      ap (λ t. on (cond t (Finished NothingToUndo) (Going (UndoReadEntry (pos (suc j)) (pos (suc j) -ℤ pos 1)))) old) (le-ltb (suc j) 1 (omega arith)) ∙
+      ap (λ t. on (cond t (Break NothingToUndo) (Continue (UndoReadEntry (pos (suc j)) (pos (suc j) -ℤ pos 1)))) old) (le-ltb (suc j) 1 (omega arith)) ∙
       ap (λ x. going (UndoReadEntry (pos (suc j)) x) old) (omega (arith, ints)) in
       let w2 : walk i 2 s ≡ going (UndoReadSetpoint (pos j) d) old =
       ap (next i) w1 ∙ ap (λ x. going (UndoReadSetpoint (pos j) x) old) (entry_read a (suc j) w es j there) in

@@ -1,7 +1,5 @@
--- The board: where its registers stand, a fresh one, and one access.
+-- The board: where its registers stand, what reading and writing one mean, and a fresh board.
 use Rattle.std.specs.Prelude.{ℕ, ◌+◌, cond, List, ◌∷◌, replicate, ℤ, pos, negsuc, Some, None, Option, nat_le, slice_index_or, slice_set}
-use Rattle.bus.specs.declared.Access.{Access}
-use Rattle.bus.specs.declared.Access.TheVariants.{Read, Write}
 use Rattle.feed.specs.declared.board.Board.{Board}
 use Rattle.feed.specs.declared.board.Register.{Register}
 use Rattle.feed.specs.declared.board.Register.TheVariants.{Setpoint, Depth, Signer, Entry}
@@ -44,13 +42,3 @@ write b r v = write_at b (position_of r) v
 -- the start in the setpoint and 0 everywhere else
 abbrev pub fresh : ℤ → Board
 fresh start = write (board_of (replicate 67 (pos 0))) Setpoint start
-
--- the board after one access
-abbrev pub performed : Board → Access Register ℤ → Board
-performed b (Read r) = b
-performed b (Write r v) = write b r v
-
--- the value that goes over the bus
-abbrev pub carried : Board → Access Register ℤ → ℤ
-carried b (Read r) = read b r
-carried b (Write r v) = v

@@ -2,7 +2,7 @@
 use Rattle.std.specs.Prelude.{◌≡◌, ℕ, zero, suc, ◌<◌, ◌≤◌, List, length, ℤ, pos, ◌-ℤ◌, slice_index_or, unsigned_abs}
 use Rattle.feed.specs.Board.{made, read}
 use Rattle.feed.specs.Job.{ceiling, most_entries}
-use Rattle.feed.specs.Task.{begun, board_after, left_to_do}
+use Rattle.feed.specs.Task.{Progress, begun, board_after, left_to_do}
 use Rattle.feed.specs.Whole.{Outcome}
 use Rattle.feed.specs.declared.board.Board.{Board}
 use Rattle.feed.specs.declared.board.Register.TheVariants.{Setpoint, Depth, Signer}
@@ -10,8 +10,7 @@ use Rattle.feed.specs.declared.job.Job.{Job}
 use Rattle.feed.specs.declared.job.Job.TheVariants.{Trim, Undo, Sign}
 use Rattle.feed.specs.declared.job.Verdict.{Verdict}
 use Rattle.feed.specs.declared.task.Task.{Task}
-use Rattle.feed.specs.declared.task.Progress.{Progress}
-use Rattle.feed.specs.declared.task.Progress.TheVariants.{Going, Finished}
+use Rattle.std.specs.declared.ops.ControlFlow.TheVariants.{Continue, Break}
 
 -- a task on its board, or the verdict with the board that it left
 pub data Doing : Type 0 where
@@ -19,8 +18,8 @@ pub data Doing : Type 0 where
   done : Verdict → Board → Doing
 
 abbrev pub on : Progress → Board → Doing
-on (Going t) b = going t b
-on (Finished v) b = done v b
+on (Continue t) b = going t b
+on (Break v) b = done v b
 
 -- one access more of station i, and k of them
 abbrev pub next : ℕ → Doing → Doing

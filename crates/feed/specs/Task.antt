@@ -1,20 +1,26 @@
 -- A job access by access: the one access that comes next, and what is left to do after it.
 use Rattle.std.specs.Prelude.{ℕ, cond, ℤ, pos, ◌+ℤ◌, ◌-ℤ◌, ◌*ℤ◌, int_le, int_lt}
 use Rattle.std.specs.Int.{saturate_to_bits}
+use Rattle.std.specs.declared.ops.ControlFlow.{ControlFlow}
+use Rattle.std.specs.declared.ops.ControlFlow.TheVariants.{Continue, Break}
 use Rattle.bus.specs.declared.Access.{Access}
 use Rattle.bus.specs.declared.Access.TheVariants.{Read, Write}
-use Rattle.feed.specs.Board.{performed, carried}
+use Rattle.bus.specs.Registers.{performed, carried}
+use Rattle.feed.specs.Board.{read, write}
 use Rattle.feed.specs.Job.{ceiling, most_entries, thousandth, same}
 use Rattle.feed.specs.declared.board.Board.{Board}
 use Rattle.feed.specs.declared.board.Register.{Register}
 use Rattle.feed.specs.declared.board.Register.TheVariants.{Setpoint, Depth, Signer, Entry}
 use Rattle.feed.specs.declared.job.Job.{Job}
 use Rattle.feed.specs.declared.job.Job.TheVariants.{Trim, Undo, Sign}
+use Rattle.feed.specs.declared.job.Verdict.{Verdict}
 use Rattle.feed.specs.declared.job.Verdict.TheVariants.{Done, PileFull, OverCeiling, NothingToUndo, SetpointDiffers}
 use Rattle.feed.specs.declared.task.Task.{Task}
 use Rattle.feed.specs.declared.task.Task.TheVariants.{TrimReadSetpoint, TrimReadDepth, TrimWriteEntry, TrimWriteDepth, TrimWriteSetpoint, TrimClearSigner, UndoReadDepth, UndoReadEntry, UndoReadSetpoint, UndoWriteDepth, UndoWriteSetpoint, UndoClearSigner, SignReadSetpoint, SignWriteSigner}
-use Rattle.feed.specs.declared.task.Progress.{Progress}
-use Rattle.feed.specs.declared.task.Progress.TheVariants.{Going, Finished}
+
+-- what one access leaves: the task to continue with, or the verdict that breaks off
+abbrev pub Progress : Type 0
+Progress = ControlFlow Verdict Task
 
 -- a job before its first access
 abbrev pub begun : Job → Task
@@ -42,8 +48,8 @@ access_of i SignWriteSigner = Write Signer (pos i)
 -- a trim that found the depth k, with its difference d and the setpoint a that it would write
 abbrev pub tested : ℤ → ℤ → ℤ → Progress
 tested k d a =
-    cond (int_le (pos most_entries) k) (Finished PileFull)
-    (cond (int_lt (pos ceiling) a) (Finished OverCeiling) (Going (TrimWriteEntry (k +ℤ pos 1) d a)))
+    cond (int_le (pos most_entries) k) (Break PileFull)
+    (cond (int_lt (pos ceiling) a) (Break OverCeiling) (Continue (TrimWriteEntry (k +ℤ pos 1) d a)))
 
 -- a trim's difference as numbers of 32 bits have it: the product stops at their bounds
 abbrev pub computed : ℤ → ℤ → ℤ
@@ -59,28 +65,28 @@ restored a d = saturate_to_bits 31 (a -ℤ d)
 
 -- what an undo does once it has read the depth k
 abbrev pub undone : ℤ → Progress
-undone k = cond (int_lt k (pos 1)) (Finished NothingToUndo) (Going (UndoReadEntry k (k -ℤ pos 1)))
+undone k = cond (int_lt k (pos 1)) (Break NothingToUndo) (Continue (UndoReadEntry k (k -ℤ pos 1)))
 
 -- what is left to do, from the place and the value that went over the bus
 abbrev pub progress : Task → ℤ → Progress
-progress (TrimReadSetpoint p) x = Going (TrimReadDepth p x)
+progress (TrimReadSetpoint p) x = Continue (TrimReadDepth p x)
 progress (TrimReadDepth p a) x = judged p a x
-progress (TrimWriteEntry k d a) x = Going (TrimWriteDepth k a)
-progress (TrimWriteDepth k a) x = Going (TrimWriteSetpoint a)
-progress (TrimWriteSetpoint a) x = Going TrimClearSigner
-progress TrimClearSigner x = Finished Done
-progress UndoReadDepth x = cond (int_lt x (pos 1)) (Finished NothingToUndo) (Going (UndoReadEntry x (x -ℤ pos 1)))
-progress (UndoReadEntry e k) x = Going (UndoReadSetpoint k x)
-progress (UndoReadSetpoint k d) x = Going (UndoWriteDepth k (saturate_to_bits 31 (x -ℤ d)))
-progress (UndoWriteDepth k a) x = Going (UndoWriteSetpoint a)
-progress (UndoWriteSetpoint a) x = Going UndoClearSigner
-progress UndoClearSigner x = Finished Done
-progress (SignReadSetpoint v) x = cond (same x v) (Going SignWriteSigner) (Finished SetpointDiffers)
-progress SignWriteSigner x = Finished Done
+progress (TrimWriteEntry k d a) x = Continue (TrimWriteDepth k a)
+progress (TrimWriteDepth k a) x = Continue (TrimWriteSetpoint a)
+progress (TrimWriteSetpoint a) x = Continue TrimClearSigner
+progress TrimClearSigner x = Break Done
+progress UndoReadDepth x = cond (int_lt x (pos 1)) (Break NothingToUndo) (Continue (UndoReadEntry x (x -ℤ pos 1)))
+progress (UndoReadEntry e k) x = Continue (UndoReadSetpoint k x)
+progress (UndoReadSetpoint k d) x = Continue (UndoWriteDepth k (saturate_to_bits 31 (x -ℤ d)))
+progress (UndoWriteDepth k a) x = Continue (UndoWriteSetpoint a)
+progress (UndoWriteSetpoint a) x = Continue UndoClearSigner
+progress UndoClearSigner x = Break Done
+progress (SignReadSetpoint v) x = cond (same x v) (Continue SignWriteSigner) (Break SetpointDiffers)
+progress SignWriteSigner x = Break Done
 
 -- one access of station i: the board after it, and what is left to do
 abbrev pub board_after : ℕ → Board → Task → Board
-board_after i b t = performed b (access_of i t)
+board_after i b t = performed write b (access_of i t)
 
 abbrev pub left_to_do : ℕ → Board → Task → Progress
-left_to_do i b t = progress t (carried b (access_of i t))
+left_to_do i b t = progress t (carried read b (access_of i t))

@@ -1,7 +1,7 @@
 ghost use Rattle.std.specs.Prelude.{◌≡◌};
-ghost use Rattle.feed.specs.Board.{position_of, fresh, read, write, performed, carried};
+ghost use Rattle.feed.specs.Board.{position_of, fresh, read as standing, write as written};
 
-use bus::Access;
+use bus::Registers;
 
 // A register by name. Entry 1 is the oldest.
 #[derive(Clone, Copy, PartialEq, Eq, Debug)]
@@ -21,13 +21,8 @@ impl Register {
             Register::Setpoint => Some(0),
             Register::Depth => Some(1),
             Register::Signer => Some(2),
-            Register::Entry(k) => {
-                if k >= 1 && k <= 64 {
-                    Some(k as usize + 2)
-                } else {
-                    None
-                }
-            }
+            Register::Entry(k) if (1..=64).contains(&k) => Some(k as usize + 2),
+            Register::Entry(_) => None,
         }
     }
 }
@@ -47,36 +42,28 @@ impl Board {
         board.write(Register::Setpoint, start);
         board
     }
+}
 
-    // What stands in a register, and 0 where there is no such register.
-    pub fn read(&self, register: Register) -> i32
-        ensures { result ≡ read self.now register }
-    {
+// In the place of a register that is no register on the board, 0 is read, and nothing is written.
+impl Registers for Board {
+    type Name = Register;
+
+    type Value = i32;
+
+    ghost value_of = { standing };
+
+    ghost with_value = { written };
+
+    fn read(&self, register: Register) -> i32 {
         match register.position() {
             Some(at) => self.registers[at],
             None => 0,
         }
     }
 
-    fn write(&mut self, register: Register, value: i32)
-        ensures { self.new ≡ write self.old register value }
-    {
+    fn write(&mut self, register: Register, value: i32) {
         if let Some(at) = register.position() {
             self.registers[at] = value;
-        }
-    }
-
-    // One access. The answer is the value that went over the bus.
-    pub fn perform(&mut self, access: Access<Register, i32>) -> i32
-        ensures left { self.new ≡ performed self.old access }
-        ensures said { result ≡ carried self.old access }
-    {
-        match access {
-            Access::Read(register) => self.read(register),
-            Access::Write(register, value) => {
-                self.write(register, value);
-                value
-            }
         }
     }
 }

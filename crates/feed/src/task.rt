@@ -6,8 +6,8 @@ ghost use Rattle.feed.specs.Task.{begun, access_of, judged, restored, undone, pr
 
 use crate::board::{Board, Register};
 use crate::job::{Job, Verdict};
-use crate::task::Progress::{Finished, Going};
-use bus::Access;
+use bus::{Access, Registers};
+use std::ops::ControlFlow::{self, Break, Continue};
 
 const CEILING: i32 = 400_000;
 
@@ -61,13 +61,6 @@ pub enum Task {
     SignWriteSigner,
 }
 
-// What one access leaves: more to do, or the verdict.
-#[derive(Clone, Copy, PartialEq, Eq, Debug)]
-pub enum Progress {
-    Going(Task),
-    Finished(Verdict),
-}
-
 // A trim's difference, the fraction dropped towards zero. The saturation of the product never acts on a rack's board.
 pub fn difference(setpoint: i32, permille: i32) -> i32
     ensures value { result ≡ thousandth (saturate_to_bits 31 (setpoint *ℤ permille)) }
@@ -77,17 +70,17 @@ pub fn difference(setpoint: i32, permille: i32) -> i32
 }
 
 // What a trim does once it has read the setpoint and the depth. The saturation of the sum never acts on a rack's board.
-fn judge(permille: i32, setpoint: i32, depth: i32) -> Progress
+fn judge(permille: i32, setpoint: i32, depth: i32) -> ControlFlow<Verdict, Task>
     ensures { result ≡ judged permille setpoint depth }
 {
     let difference = difference(setpoint, permille);
     let trimmed = setpoint.saturating_add(difference);
     if depth >= MOST_ENTRIES {
-        Finished(Verdict::PileFull)
+        Break(Verdict::PileFull)
     } else if trimmed > CEILING {
-        Finished(Verdict::OverCeiling)
+        Break(Verdict::OverCeiling)
     } else {
-        Going(Task::TrimWriteEntry {
+        Continue(Task::TrimWriteEntry {
             depth: depth + 1,
             difference,
             setpoint: trimmed,
@@ -96,13 +89,13 @@ fn judge(permille: i32, setpoint: i32, depth: i32) -> Progress
 }
 
 // What an undo does once it has read the depth.
-fn newest_of(depth: i32) -> Progress
+fn newest_of(depth: i32) -> ControlFlow<Verdict, Task>
     ensures { result ≡ undone depth }
 {
     if depth < 1 {
-        Finished(Verdict::NothingToUndo)
+        Break(Verdict::NothingToUndo)
     } else {
-        Going(Task::UndoReadEntry {
+        Continue(Task::UndoReadEntry {
             entry: depth,
             depth: depth - 1,
         })
@@ -116,18 +109,20 @@ fn before_trim(setpoint: i32, difference: i32) -> i32
     setpoint.saturating_sub(difference)
 }
 
-impl Task {
-    // The job before its first access.
-    pub fn of(job: Job) -> Task
-        ensures { result ≡ begun job }
-    {
+// A job becomes its task before the first access.
+impl From<Job> for Task {
+    ghost from_gives = { λ job task. task ≡ begun job };
+
+    fn from(job: Job) -> Task {
         match job {
             Job::Trim(permille) => Task::TrimReadSetpoint { permille },
             Job::Undo => Task::UndoReadDepth,
             Job::Sign(setpoint) => Task::SignReadSetpoint { setpoint },
         }
     }
+}
 
+impl Task {
     // The one access that comes next.
     pub fn access(self, station: u8) -> Access<Register, i32>
         ensures { result ≡ access_of station self }
@@ -154,48 +149,48 @@ impl Task {
         }
     }
 
-    // What is left to do after that access, from the value that went over the bus.
-    pub fn next(self, value: i32) -> Progress
+    // What is left to do after that access, from the value that went over the bus: the task to continue with, or the verdict.
+    pub fn next(self, value: i32) -> ControlFlow<Verdict, Task>
         ensures { result ≡ progress self value }
     {
         match self {
             Task::TrimReadSetpoint { permille } => {
                 let setpoint = value;
-                Going(Task::TrimReadDepth { permille, setpoint })
+                Continue(Task::TrimReadDepth { permille, setpoint })
             }
             Task::TrimReadDepth { permille, setpoint } => judge(permille, setpoint, value),
             Task::TrimWriteEntry {
                 depth,
                 setpoint,
                 ..
-            } => { Going(Task::TrimWriteDepth { depth, setpoint }) }
-            Task::TrimWriteDepth { setpoint, .. } => Going(Task::TrimWriteSetpoint { setpoint }),
-            Task::TrimWriteSetpoint { .. } => Going(Task::TrimClearSigner),
-            Task::TrimClearSigner => Finished(Verdict::Done),
+            } => { Continue(Task::TrimWriteDepth { depth, setpoint }) }
+            Task::TrimWriteDepth { setpoint, .. } => Continue(Task::TrimWriteSetpoint { setpoint }),
+            Task::TrimWriteSetpoint { .. } => Continue(Task::TrimClearSigner),
+            Task::TrimClearSigner => Break(Verdict::Done),
             Task::UndoReadDepth => newest_of(value),
             Task::UndoReadEntry { depth, .. } => {
                 let difference = value;
-                Going(Task::UndoReadSetpoint { depth, difference })
+                Continue(Task::UndoReadSetpoint { depth, difference })
             }
             Task::UndoReadSetpoint { depth, difference } => {
                 let setpoint = before_trim(value, difference);
-                Going(Task::UndoWriteDepth { depth, setpoint })
+                Continue(Task::UndoWriteDepth { depth, setpoint })
             }
-            Task::UndoWriteDepth { setpoint, .. } => Going(Task::UndoWriteSetpoint { setpoint }),
-            Task::UndoWriteSetpoint { .. } => Going(Task::UndoClearSigner),
-            Task::UndoClearSigner => Finished(Verdict::Done),
-            Task::SignReadSetpoint { setpoint } if value == setpoint => Going(
+            Task::UndoWriteDepth { setpoint, .. } => Continue(Task::UndoWriteSetpoint { setpoint }),
+            Task::UndoWriteSetpoint { .. } => Continue(Task::UndoClearSigner),
+            Task::UndoClearSigner => Break(Verdict::Done),
+            Task::SignReadSetpoint { setpoint } if value == setpoint => Continue(
                 Task::SignWriteSigner,
             ),
-            Task::SignReadSetpoint { .. } => Finished(Verdict::SetpointDiffers),
-            Task::SignWriteSigner => Finished(Verdict::Done),
+            Task::SignReadSetpoint { .. } => Break(Verdict::SetpointDiffers),
+            Task::SignWriteSigner => Break(Verdict::Done),
         }
     }
 }
 
 impl Board {
     // One access of a station's task.
-    pub fn step(&mut self, station: u8, task: Task) -> Progress
+    pub fn step(&mut self, station: u8, task: Task) -> ControlFlow<Verdict, Task>
         ensures left { self.new ≡ board_after station self.old task }
         ensures said { result ≡ left_to_do station self.old task }
     {
