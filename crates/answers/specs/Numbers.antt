@@ -25,14 +25,17 @@ served_number StillLeaving = 13
 served_number NowResting = 14
 served_number (Ended v) = 20 + verdict_number v
 
+-- of an accepted or refused call, by the number of what an accepted one says
+abbrev pub answer_number : {T : Type 0} → (T → ℕ) → Result T Refusal → ℕ
+answer_number number_of (Ok x) = number_of x
+answer_number number_of (Err f) = refusal_number f
+
 -- of an order, and of a slot
 abbrev pub order_number : Result (Unit {0}) Refusal → ℕ
-order_number (Ok x) = 0
-order_number (Err f) = refusal_number f
+order_number = answer_number (λ x. 0)
 
 abbrev pub slot_number : Result Served Refusal → ℕ
-slot_number (Ok s) = served_number s
-slot_number (Err f) = refusal_number f
+slot_number = answer_number served_number
 
 -- of the last verdict, 0 before the first
 abbrev pub last_number : Option Verdict → ℕ
