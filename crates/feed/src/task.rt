@@ -9,8 +9,10 @@ use crate::job::{Job, Verdict};
 use bus::{Access, Registers};
 use std::ops::ControlFlow::{self, Break, Continue};
 
-const CEILING: i32 = 400_000;
+// The highest setpoint, in kg/h.
+pub const CEILING: i32 = 400_000;
 
+// The most entries of a pile.
 const MOST_ENTRIES: i32 = 64;
 
 // A job at its place: the name says the access that comes next. `permille` and the `setpoint` of a sign are what was

@@ -1,5 +1,6 @@
 -- Each call on a rack: its answer, and the rack after it.
 use Rattle.std.specs.Prelude.{ℕ, zero, suc, ◌+◌, ◌-◌, min, Bool, false, cond, List, replicate, ℤ, pos, negsuc, Some, None, Ok, Err, Option, Result, ◌==◌, int_lt, nat_lt, slice_index_or, slice_set}
+use Rattle.std.specs.declared.ops.ControlFlow.TheVariants.{Continue, Break}
 use Rattle.bus.specs.declared.Access.{Access}
 use Rattle.lock.specs.declared.stage.Stage.{Stage}
 use Rattle.lock.specs.declared.stage.Stage.TheVariants.{Rest, Trying, Inside, Leaving}
@@ -7,7 +8,7 @@ use Rattle.lock.specs.Stages.{asked, is_inside}
 use Rattle.lock.specs.Meaning.{Meaning}
 use Rattle.feed.specs.Board.{fresh, read}
 use Rattle.feed.specs.Job.{ceiling}
-use Rattle.feed.specs.Task.{begun, access_of, left_to_do, board_after}
+use Rattle.feed.specs.Task.{Progress, begun, access_of, left_to_do, board_after}
 use Rattle.feed.specs.declared.board.Board.{Board}
 use Rattle.feed.specs.declared.board.Register.{Register}
 use Rattle.feed.specs.declared.board.Register.TheVariants.{Setpoint, Depth, Signer}
@@ -16,8 +17,6 @@ use Rattle.feed.specs.declared.job.Job.TheVariants.{Trim, Undo, Sign}
 use Rattle.feed.specs.declared.job.Verdict.{Verdict}
 use Rattle.feed.specs.declared.task.Task.{Task}
 use Rattle.feed.specs.declared.task.Task.TheVariants.{TrimReadSetpoint}
-use Rattle.feed.specs.declared.task.Progress.{Progress}
-use Rattle.feed.specs.declared.task.Progress.TheVariants.{Going, Finished}
 use Rattle.answers.specs.declared.Refusal.{Refusal}
 use Rattle.answers.specs.declared.Refusal.TheVariants.{Start, StationNumber, TrimValue, SignValue, NotResting, Resting}
 use Rattle.answers.specs.declared.Served.{Served}
@@ -49,6 +48,14 @@ with_kept r i s = slice_set r.stations (i - 1) s
 abbrev pub stage_of : {L : Type 0} → Meaning L → Rack L → ℕ → Option Stage
 stage_of m r i = cond (i == 0) None (cond (nat_lt 16 i) None (asked (m.stages r.lock) i))
 
+-- a station with its stage
+abbrev pub found_at : ℕ → Option Stage → Result (ℕ × Stage) Refusal
+found_at i None = Err StationNumber
+found_at i (Some s) = Ok (i, s)
+
+abbrev pub found : {L : Type 0} → Meaning L → Rack L → ℕ → Result (ℕ × Stage) Refusal
+found m r i = found_at i (stage_of m r i)
+
 -- SET UP: all stations before their first order, the start on a fresh board
 
 abbrev pub fresh_rack : {L : Type 0} → L → ℕ → Rack L
@@ -68,6 +75,13 @@ abbrev pub fault : Job → Option Refusal
 fault (Trim p) = cond (is_zero p) (Some TrimValue) (cond (int_lt p (negsuc 199)) (Some TrimValue) (cond (int_lt (pos 200) p) (Some TrimValue) None))
 fault Undo = None
 fault (Sign v) = cond (int_lt v (pos 0)) (Some SignValue) (cond (int_lt (pos ceiling) v) (Some SignValue) None)
+
+abbrev pub unless : Option Refusal → Result (Unit {0}) Refusal
+unless None = Ok tt
+unless (Some f) = Err f
+
+abbrev pub fitting : Job → Result (Unit {0}) Refusal
+fitting job = unless (fault job)
 
 abbrev pub order_said : Option Stage → Option Refusal → Result (Unit {0}) Refusal
 order_said None f = Err StationNumber
@@ -121,17 +135,17 @@ abbrev pub to_do : {L : Type 0} → Rack L → ℕ → Progress
 to_do r i = left_to_do i r.board (kept r i).task
 
 abbrev pub worked_by : {L : Type 0} → Meaning L → Rack L → ℕ → Progress → Rack L
-worked_by m r i (Going t) =
+worked_by m r i (Continue t) =
     rack_of r.lock (with_kept r i (station_of t (counted (kept r i).count) (kept r i).last)) (board_after i r.board (kept r i).task)
-worked_by m r i (Finished v) =
+worked_by m r i (Break v) =
     rack_of (m.ended r.lock i) (with_kept r i (station_of (kept r i).task (counted (kept r i).count) (Some v))) (board_after i r.board (kept r i).task)
 
 abbrev pub worked_rack : {L : Type 0} → Meaning L → Rack L → ℕ → Rack L
 worked_rack m r i = worked_by m r i (to_do r i)
 
 abbrev pub worked : Progress → Served
-worked (Going t) = Working
-worked (Finished v) = Ended v
+worked (Continue t) = Working
+worked (Break v) = Ended v
 
 abbrev pub worked_answer : {L : Type 0} → Rack L → ℕ → Served
 worked_answer r i = worked (to_do r i)

@@ -1,14 +1,17 @@
-ghost use Rattle.std.specs.Prelude.{◌≡◌, ◌≤◌, Some, None};
+ghost use Rattle.std.specs.Prelude.{◌≡◌};
+ghost use Rattle.lock.specs.Stages.{is_inside};
 ghost use Rattle.feed.specs.Board.{read};
-ghost use Rattle.rack.specs.Calls.{stage_of, fault, order_answer, order_rack, slot_answer, slot_rack, turned_rack, worked_answer, worked_rack, look_answer, next_access, inside_among, board_answer, set_up as setting_up};
+ghost use Rattle.rack.specs.Calls.{found, fitting, order_answer, order_rack, slot_answer, slot_rack, turned_rack, worked_answer, worked_rack, look_answer, next_access, inside_among, board_answer, set_up as setting_up};
 
+use crate::number::Number;
 use answers::{Refusal, Seen, Served, View};
-use bus::Access;
+use bus::{Access, Registers};
 use feed::board::{Board, Register};
 use feed::job::{Job, Verdict};
-use feed::task::{Progress, Task};
+use feed::task::{CEILING, Task};
 use lock::Lock;
 use lock::stage::Stage;
+use std::ops::ControlFlow::{Break, Continue};
 
 // What the rack keeps of one station: its job as far as it is done, the slots since its order, and its last verdict.
 #[derive(Clone, Copy)]
@@ -26,26 +29,16 @@ pub struct Rack<L> {
     board: Board,
 }
 
-// What is wrong with a job, if anything.
-fn wrong(job: Job) -> Option<Refusal>
-    ensures { result ≡ fault job }
+// Sends a job back that no station may be given.
+fn check(job: Job) -> Result<(), Refusal>
+    ensures { result ≡ fitting job }
 {
     match job {
-        Job::Trim(permille) => {
-            if permille == 0 || permille < -200 || permille > 200 {
-                Some(Refusal::TrimValue)
-            } else {
-                None
-            }
+        Job::Trim(permille) if permille == 0 || !(-200..=200).contains(&permille) => {
+            Err(Refusal::TrimValue)
         }
-        Job::Undo => None,
-        Job::Sign(setpoint) => {
-            if setpoint < 0 || setpoint > 400_000 {
-                Some(Refusal::SignValue)
-            } else {
-                None
-            }
-        }
+        Job::Sign(setpoint) if !(0..=CEILING).contains(&setpoint) => Err(Refusal::SignValue),
+        _ => Ok(()),
     }
 }
 
@@ -54,7 +47,7 @@ impl<L: Lock + Drop> Rack<L> {
     pub fn set_up(lock: L, start: u32) -> Result<Rack<L>, Refusal>
         ensures { result ≡ setting_up lock start }
     {
-        if start > 400_000 {
+        if start > CEILING as u32 {
             return Err(Refusal::Start);
         }
         let idle = Station {
@@ -71,15 +64,13 @@ impl<L: Lock + Drop> Rack<L> {
 }
 
 impl<L: Lock> Rack<L> {
-    // The station's stage, or nothing for a number that is no station's.
-    fn stage(&self, station: usize) -> Option<Stage>
-        ensures value { result ≡ stage_of L.meaning self.now station }
-        ensures within { elim result [ Some _ ↦ (1 ≤ station) × (station ≤ 16) | None ↦ Unit {0} ] }
+    // The station of a number, with its stage.
+    fn find(&self, station: usize) -> Result<(Number, Stage), Refusal>
+        ensures { result ≡ found L.meaning self.now station }
     {
-        if station == 0 || station > 16 {
-            return None;
-        }
-        self.lock.stage(station)
+        let number = Number::new(station).ok_or(Refusal::StationNumber)?;
+        let stage = self.lock.stage(station).ok_or(Refusal::StationNumber)?;
+        Ok((number, stage))
     }
 
     // Gives a resting station a job. It makes no access.
@@ -87,21 +78,18 @@ impl<L: Lock> Rack<L> {
         ensures left { self.new ≡ order_rack L.meaning self.old station job }
         ensures said { result ≡ order_answer L.meaning self.old station job }
     {
-        match (self.stage(station), wrong(job)) {
-            (None, _) => Err(Refusal::StationNumber),
-            (Some(_), Some(refusal)) => Err(refusal),
-            (Some(Stage::Rest), None) => {
-                self.lock.begin(station);
-                let last = self.stations[station - 1].last;
-                self.stations[station - 1] = Station {
-                    task: Task::of(job),
-                    count: 0,
-                    last,
-                };
-                Ok(())
-            }
-            (Some(_), None) => Err(Refusal::NotResting),
+        let (number, stage) = self.find(station)?;
+        check(job)?;
+        if stage != Stage::Rest {
+            return Err(Refusal::NotResting);
         }
+        self.lock.begin(station);
+        self.stations[number.index()] = Station {
+            task: job.into(),
+            count: 0,
+            ..self.stations[number.index()]
+        };
+        Ok(())
     }
 
     // Serves one station: one access.
@@ -109,20 +97,20 @@ impl<L: Lock> Rack<L> {
         ensures left { self.new ≡ slot_rack L.meaning self.old station }
         ensures said { result ≡ slot_answer L.meaning self.old station }
     {
-        match self.stage(station) {
-            None => Err(Refusal::StationNumber),
-            Some(Stage::Rest) => Err(Refusal::Resting),
-            Some(Stage::Trying) => {
-                self.turn(station);
-                match self.stage(station) {
+        let (number, stage) = self.find(station)?;
+        match stage {
+            Stage::Rest => Err(Refusal::Resting),
+            Stage::Trying => {
+                self.turn(number);
+                match self.lock.stage(station) {
                     Some(Stage::Inside) => Ok(Served::NowInside),
                     _ => Ok(Served::StillTrying),
                 }
             }
-            Some(Stage::Inside) => Ok(self.work(station)),
-            Some(Stage::Leaving) => {
-                self.turn(station);
-                match self.stage(station) {
+            Stage::Inside => Ok(self.work(number)),
+            Stage::Leaving => {
+                self.turn(number);
+                match self.lock.stage(station) {
                     Some(Stage::Rest) => Ok(Served::NowResting),
                     _ => Ok(Served::StillLeaving),
                 }
@@ -131,31 +119,30 @@ impl<L: Lock> Rack<L> {
     }
 
     // One turn of the lock, counted.
-    fn turn(&mut self, station: usize)
-        requires { (1 ≤ station) × (station ≤ 16) }
-        ensures { self.new ≡ turned_rack L.meaning self.old station }
+    fn turn(&mut self, number: Number)
+        ensures { self.new ≡ turned_rack L.meaning self.old number }
     {
-        self.lock.turn(station);
-        self.stations[station - 1].count = self.stations[station - 1].count.saturating_add(1);
+        self.lock.turn(number.station());
+        let station = &mut self.stations[number.index()];
+        station.count = station.count.saturating_add(1);
     }
 
     // One access of the station's job, counted; with the last one the station's time inside ends.
-    fn work(&mut self, station: usize) -> Served
-        requires { (1 ≤ station) × (station ≤ 16) }
-        ensures left { self.new ≡ worked_rack L.meaning self.old station }
-        ensures said { result ≡ worked_answer self.old station }
+    fn work(&mut self, number: Number) -> Served
+        ensures left { self.new ≡ worked_rack L.meaning self.old number }
+        ensures said { result ≡ worked_answer self.old number }
     {
-        let Station { task, count, last } = self.stations[station - 1];
+        let Station { task, count, last } = self.stations[number.index()];
         let count = count.saturating_add(1);
-        match self.board.step(station as u8, task) {
-            Progress::Going(task) => {
-                self.stations[station - 1] = Station { task, count, last };
+        match self.board.step(number.station() as u8, task) {
+            Continue(task) => {
+                self.stations[number.index()] = Station { task, count, last };
                 Served::Working
             }
-            Progress::Finished(verdict) => {
-                self.lock.end(station);
+            Break(verdict) => {
+                self.lock.end(number.station());
                 let last = Some(verdict);
-                self.stations[station - 1] = Station { task, count, last };
+                self.stations[number.index()] = Station { task, count, last };
                 Served::Ended(verdict)
             }
         }
@@ -165,36 +152,34 @@ impl<L: Lock> Rack<L> {
     pub fn look(&self, station: usize) -> Result<Seen, Refusal>
         ensures { result ≡ look_answer L.meaning self.now station }
     {
-        match self.stage(station) {
-            None => Err(Refusal::StationNumber),
-            Some(stage) => {
-                let Station { count, last, .. } = self.stations[station - 1];
-                Ok(Seen { stage, count, last })
-            }
-        }
+        let (number, stage) = self.find(station)?;
+        let Station { count, last, .. } = self.stations[number.index()];
+        Ok(Seen { stage, count, last })
     }
 
     // The access that the next slot of a station inside makes on the board; none for any other station.
     pub fn next_access(&self, station: usize) -> Option<Access<Register, i32>>
         ensures { result ≡ next_access L.meaning self.now station }
     {
-        match self.stage(station) {
-            Some(Stage::Inside) => Some(self.stations[station - 1].task.access(station as u8)),
+        match self.find(station) {
+            Ok((number, Stage::Inside)) => {
+                Some(self.stations[number.index()].task.access(station as u8))
+            }
             _ => None,
         }
     }
 
-    // The station inside, if there is one, found by asking the lock.
+    fn is_inside(&self, station: usize) -> bool
+        ensures { result ≡ is_inside (L.meaning.stages self.now.lock) station }
+    {
+        matches!(self.lock.stage(station), Some(Stage::Inside))
+    }
+
+    // The station inside, if there is one, found by asking the lock from its highest station down.
     fn inside(&self) -> Option<usize>
         ensures { result ≡ inside_among (L.meaning.stages self.now.lock) 16 }
     {
-        let mut inside = None;
-        for k in 0..16 {
-            if let Some(Stage::Inside) = self.lock.stage(k + 1) {
-                inside = Some(k + 1);
-            }
-        }
-        inside
+        (1..=16).rev().find(|station| self.is_inside(*station))
     }
 
     // What the board shows; with a station inside, its job may be half done.
