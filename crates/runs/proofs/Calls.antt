@@ -5,8 +5,8 @@ use Rattle.lock.specs.declared.stage.Stage.TheVariants.{Rest, Trying, Inside, Le
 use Rattle.lock.specs.Stages.{asked, moved}
 use Rattle.lock.specs.Meaning.{Meaning, Lawful}
 use Rattle.feed.specs.declared.job.Job.{Job}
-use Rattle.feed.specs.declared.task.Progress.{Progress}
-use Rattle.feed.specs.declared.task.Progress.TheVariants.{Going, Finished}
+use Rattle.feed.specs.Task.{Progress}
+use Rattle.std.specs.declared.ops.ControlFlow.TheVariants.{Continue, Break}
 use Rattle.rack.specs.Calls.{stage_of, fault, order_answer, order_left, ordered_rack, slot_said, slot_left, turned_rack, to_do, worked, worked_by, tried, left}
 use Rattle.answers.specs.declared.Refusal.{Refusal}
 use Rattle.answers.specs.declared.Served.{Served}
@@ -61,8 +61,8 @@ module _ {L : Type 0} (m : Meaning L) (laws : Lawful m) (lock : L) (start : ℕ)
 
       work_step : i ≤ 16 → asked (m.stages r.lock) i ≡ Some Inside → (p : Progress) → to_do r i ≡ p →
           Good m lock start (heard h (Slotted i (Ok (worked p)))) (worked_by m r i p)
-      work_step most here (Going t) e = working m laws lock start h r good i most here t e
-      work_step most here (Finished v) e = ended m laws lock start h r good i most here v e
+      work_step most here (Continue t) e = working m laws lock start h r good i most here t e
+      work_step most here (Break v) e = ended m laws lock start h r good i most here v e
 
       slot_step : (x : Option Stage) → stage_of m r i ≡ x → Good m lock start (heard h (Slotted i (slot_said m r i x))) (slot_left m r i x)
       slot_step None e = unheeded

@@ -28,4 +28,3 @@ pub mod Listed
 pub mod Tales
 pub mod Books
 pub mod Promises
-pub mod Loop

@@ -6,14 +6,13 @@ use Rattle.lock.specs.declared.stage.Stage.TheVariants.{Rest, Trying, Inside, Le
 use Rattle.lock.specs.Stages.{inside, asked, moved}
 use Rattle.lock.specs.Meaning.{Meaning, Kept, Lawful}
 use Rattle.lock.proofs.Moves.{asked_station}
-use Rattle.feed.specs.Task.{begun, board_after}
+use Rattle.feed.specs.Task.{Progress, begun, board_after}
 use Rattle.feed.specs.Whole.{whole}
 use Rattle.feed.specs.Course.{going, Course}
 use Rattle.feed.proofs.Steps.{goes_on, ends_here, some_access}
 use Rattle.feed.specs.declared.board.Board.{Board}
 use Rattle.feed.specs.declared.job.Job.{Job}
-use Rattle.feed.specs.declared.task.Progress.{Progress}
-use Rattle.feed.specs.declared.task.Progress.TheVariants.{Going, Finished}
+use Rattle.std.specs.declared.ops.ControlFlow.TheVariants.{Continue, Break}
 use Rattle.rack.specs.Calls.{rack_of, idle, kept, with_kept, to_do, turned_rack, worked_by}
 use Rattle.rack.specs.declared.calls.Station.{Station}
 use Rattle.rack.specs.declared.calls.Rack.{Rack}
@@ -116,7 +115,7 @@ module _ {L : Type 0} (m : Meaning L) (laws : Lawful m) (lock quiet : L) (i : �
         ]
 
     pub work_slot : Works m lock quiet i book job r served wanted → (p : Progress) → to_do r i ≡ p → Lonely m lock quiet i book job (worked_by m r i p) (suc served) (suc wanted)
-    work_slot P (Going t) e =
+    work_slot P (Continue t) e =
         let now : Board = board_after i r.board (kept r i).task in
         let (less, w) = goes_on C P.made (kept r i).task r.board P.not_all P.walked t e in
         let spent = P.spent in
@@ -136,7 +135,7 @@ module _ {L : Type 0} (m : Meaning L) (laws : Lawful m) (lock quiet : L) (i : �
             all_served = omega arith;
           };
         }
-    work_slot P (Finished v) e =
+    work_slot P (Break v) e =
         let (last, _, _) = ends_here C P.made (kept r i).task r.board P.not_all P.walked v e in
         let K = laws.ended_kept r.lock i lonely.fixed.sound in
         let moves = laws.ends r.lock i lonely.fixed.sound (ap inside P.here) in

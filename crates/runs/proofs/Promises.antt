@@ -1,5 +1,5 @@
 -- The promise, at every moment of a list of calls.
-use Rattle.std.proofs.Common.{◌≡◌, ℕ, ◌+◌, ◌≤◌, min, List, [], length, Some, Ok, Option, Result, sym, ap, ◌∙◌, arith}
+use Rattle.std.proofs.Common.{◌≡◌, ℕ, ◌+◌, ◌≤◌, min, List, [], length, Some, Ok, Option, Result, sym, subst, ap, ◌∙◌, arith}
 use Rattle.std.proofs.lemmas.List.{append-nil}
 use Rattle.lock.specs.declared.stage.Stage.{Stage}
 use Rattle.lock.specs.declared.stage.Stage.TheVariants.{Inside}
@@ -131,3 +131,10 @@ module _ {L : Type 0} (m : Meaning L) (laws : Lawful m) (lock : L) (start : ℕ)
 
   pub throughout : (calls : List Call) → Throughout m lock start calls
   throughout calls made left e = promise made
+
+-- the same after all of the calls, of what a run tells of them
+pub promised : {L : Type 0} (m : Meaning L) → Lawful m → (lock : L) (start : ℕ) (calls : List Call) (es : List Event) (r : Rack L) → start ≤ ceiling →
+    r ≡ ran m (fresh_rack lock start) calls → es ≡ events m (fresh_rack lock start) calls → Ready m lock → Promise m lock start es r
+promised m laws lock start calls es r low same told ready =
+    subst (λ z. Promise m lock start z r) (sym told)
+    (subst (Promise m lock start (events m (fresh_rack lock start) calls)) (sym same) (throughout m laws lock start ready low calls calls [] (sym (append-nil calls))))

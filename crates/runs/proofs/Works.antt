@@ -13,7 +13,7 @@ use Rattle.feed.proofs.Steps.{goes_on, ends_here}
 use Rattle.feed.specs.declared.board.Board.{Board}
 use Rattle.feed.specs.declared.job.Verdict.{Verdict}
 use Rattle.feed.specs.declared.task.Task.{Task}
-use Rattle.feed.specs.declared.task.Progress.TheVariants.{Going, Finished}
+use Rattle.std.specs.declared.ops.ControlFlow.TheVariants.{Continue, Break}
 use Rattle.rack.specs.Calls.{kept, to_do, worked_by}
 use Rattle.answers.specs.declared.Served.TheVariants.{Working, Ended}
 use Rattle.rack.specs.declared.calls.Rack.{Rack}
@@ -56,12 +56,12 @@ module _ {L : Type 0} (m : Meaning L) (laws : Lawful m) (lock : L) (start : ℕ)
         course start (length (m.stages lock)) i g.board midway.job good.agree.fit (omega arith) midway.proper
 
     -- there is more to do
-    pub working : (t : Task) → to_do r i ≡ Going t → Good m lock start (heard h (Slotted i (Ok Working))) (worked_by m r i (Going t))
+    pub working : (t : Task) → to_do r i ≡ Continue t → Good m lock start (heard h (Slotted i (Ok Working))) (worked_by m r i (Continue t))
     working t e =
         let (less, w) = goes_on runs midway.made (kept r i).task r.board midway.not_all midway.walked t e in
         let st = asked_station s i Inside here in
         let task-is = ap (λ z. z.task) (kept_at r.stations i _ st.0 good.agree.size most) in
-        let further : Midway i g.board (g.noted i) (kept (worked_by m r i (Going t)) i).task now =
+        let further : Midway i g.board (g.noted i) (kept (worked_by m r i (Continue t)) i).task now =
         record {
           job = midway.job;
           is_noted = midway.is_noted;
@@ -85,7 +85,7 @@ module _ {L : Type 0} (m : Meaning L) (laws : Lawful m) (lock : L) (start : ℕ)
         }
 
     -- that was the last access: the board is the one that the ledger has after doing the job whole
-    pub ended : (v : Verdict) → to_do r i ≡ Finished v → Good m lock start (heard h (Slotted i (Ok (Ended v)))) (worked_by m r i (Finished v))
+    pub ended : (v : Verdict) → to_do r i ≡ Break v → Good m lock start (heard h (Slotted i (Ok (Ended v)))) (worked_by m r i (Break v))
     ended v e =
         let o : Outcome = whole i g.board midway.job in
         let (_, same_verdict, same_board) = ends_here runs midway.made (kept r i).task r.board midway.not_all midway.walked v e in

@@ -3,3 +3,4 @@ pub mod Told
 pub mod Ledger
 pub mod Promise
 pub mod Refused
+pub mod Words

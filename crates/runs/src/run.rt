@@ -1,30 +1,54 @@
-ghost use Rattle.std.specs.Prelude.{◌≡◌, [], ◌∷◌, ◌++◌, IfOk, OnOk};
+ghost use Rattle.std.specs.Prelude.{◌≡◌, IfOk, Some};
 ghost use Rattle.rack.specs.Calls.{fresh_rack};
-ghost use Rattle.runs.specs.declared.run.Fault.TheVariants.{Memory};
+ghost use Rattle.runs.specs.declared.run.Fault.TheVariants.{Refused, Memory};
 ghost use Rattle.runs.specs.Events.{event, after, events as events_of, ran};
 ghost use Rattle.runs.specs.Promise.{Ready, Promise, Throughout};
 ghost use Rattle.runs.specs.Refused.{SetUpRefused};
+ghost use Rattle.runs.specs.Words.{fault_words};
 
 use crate::events::{Call, Event};
 use answers::Refusal;
 use lock::Lock;
 use rack::calls::Rack;
 use std::alloc::{AllocFailed, Global};
+use std::error::Error;
+use std::fmt;
 
 // Why a run gives no rack: its set-up was sent back, or there is no memory for its events.
-#[derive(Drop)]
+#[derive(Clone, Copy, PartialEq, Eq, Debug)]
 pub enum Fault {
     Refused(Refusal),
     Memory,
 }
 
+impl From<Refusal> for Fault {
+    ghost from_gives = { λ refusal fault. fault ≡ Refused refusal };
+
+    fn from(refusal: Refusal) -> Fault {
+        Fault::Refused(refusal)
+    }
+}
+
 impl<T: Drop> From<AllocFailed<T>> for Fault {
-    ghost from_gives = { λ _ r. r ≡ Memory };
+    ghost from_gives = { λ _ fault. fault ≡ Memory };
 
     fn from(_refused: AllocFailed<T>) -> Fault {
         Fault::Memory
     }
 }
+
+impl fmt::Display for Fault {
+    ghost output = { λ fault. Some (fault_words fault) };
+
+    fn fmt<W: fmt::Write>(&self, f: &mut fmt::Formatter<W>) -> fmt::Result {
+        match self {
+            Fault::Refused(refusal) => write!(f, "{refusal}"),
+            Fault::Memory => f.write_str("there is no memory for the events"),
+        }
+    }
+}
+
+impl Error for Fault {}
 
 // A rack after some calls, with what came of each.
 #[derive(Drop)]
@@ -46,13 +70,6 @@ pub fn make<L: Lock>(rack: &mut Rack<L>, call: Call) -> Event
     }
 }
 
-// Adds what came of a call.
-fn note(events: &mut Vec<Event>, event: Event) -> Result<(), AllocFailed<Event>>
-    ensures { OnOk result (events.new.items ≡ events.old.items ++ event ∷ []) }
-{
-    events.push(event)
-}
-
 // Sets up a rack with a lock of its own and makes the calls in their order, each on the rack as the one before left it.
 // What the works rely on is `keeps`: with a lock that is sound and at rest, the promise holds of all that came of the calls;
 // `throughout` says the same of every moment on the way. `does` only says that the calls were made.
@@ -67,14 +84,10 @@ pub fn run<L: Lock + Drop>(
     ensures does { IfOk result (λ d. (d.rack ≡ ran L.meaning (fresh_rack lock start) calls.now) × (d.events.items ≡ events_of L.meaning (fresh_rack lock start) calls.now)) }
     ensures refuses { SetUpRefused start result }
 {
-    let mut rack = match Rack::set_up(lock, start) {
-        Ok(rack) => rack,
-        Err(refusal) => return Err(Fault::Refused(refusal)),
-    };
+    let mut rack = Rack::set_up(lock, start)?;
     let mut events = Vec::new(heap);
     for call in calls {
-        let event = make(&mut rack, *call);
-        note(&mut events, event)?;
+        events.push(make(&mut rack, *call))?;
     }
     Ok(Ran { rack, events })
 }
