@@ -4,6 +4,7 @@ use Rattle.std.proofs.lemmas.Bool.{ne_eqb}
 use Rattle.columns.specs.declared.field.Form.{Form}
 use Rattle.columns.specs.declared.field.Content.{Content}
 use Rattle.columns.specs.declared.field.Content.TheVariants.{Blank, Minus, Number, Negative}
+use Rattle.columns.specs.declared.wrong.WrongColumn.{WrongColumn}
 use Rattle.columns.specs.Field.{shown, content_after, FieldText, FieldRead}
 use Rattle.columns.proofs.Justified.{justified-length}
 use Rattle.columns.proofs.Scans.{followed, scan}
@@ -32,9 +33,9 @@ can_go_on f Minus (suc j) = let a = can_go_on f (Negative 1) j in (49 ∷ a.0, (
 can_go_on f (Number n) (suc j) = let a = can_go_on f (Number (n * 10 + 0)) j in (48 ∷ a.0, (ap suc a.1.0, a.1.1))
 can_go_on f (Negative n) (suc j) = let a = can_go_on f (Negative (n * 10 + 0)) j in (48 ∷ a.0, (ap suc a.1.0, a.1.1))
 
-abbrev Scanned : Form → ℕ → Content → List ℕ → Result Content ℕ → Type 0
+abbrev Scanned : Form → ℕ → Content → List ℕ → Result Content WrongColumn → Type 0
 Scanned f at s bs (Ok v) = content_at_end f true s bs ≡ Some v
-Scanned f at s bs (Err c) = (d : ℕ) × ((c ≡ at + d) × ((d < length bs) × Stops (Accepted f s (length bs)) bs d))
+Scanned f at s bs (Err c) = (d : ℕ) × ((c.0 ≡ at + d) × ((d < length bs) × Stops (Accepted f s (length bs)) bs d))
 
 same_head : (x b : ℕ) (l bs : List ℕ) → x ∷ l ≡ b ∷ bs → x ≡ b
 same_head x b l bs e = cc
@@ -63,11 +64,11 @@ module _ (f : Form) (at : ℕ) (s : Content) (b : ℕ) (bs : List ℕ) where
     later = let g = st.goes in
         record { goes = (b ∷ g.0, ((ap suc g.1.0.0, (g.1.0.1.0, accepted-after f s t b g.0 (length bs) g.1.0.0 e ∙ g.1.0.1.1)), ap (λ u. b ∷ u) g.1.1)); ends = ends_later }
 
-  scanned_some : (t : Content) → content_after f (eqb (length bs) 0) s b ≡ Some t → (r : Result Content ℕ) → Scanned f (at + 1) t bs r → Scanned f at s (b ∷ bs) r
+  scanned_some : (t : Content) → content_after f (eqb (length bs) 0) s b ≡ Some t → (r : Result Content WrongColumn) → Scanned f (at + 1) t bs r → Scanned f at s (b ∷ bs) r
   scanned_some t e (Ok v) h = accepted-after f s t b bs (length bs) refl e ∙ h
   scanned_some t e (Err c) h = (suc h.0, (omega arith, (omega arith, later t e h.0 h.1.1.1)))
 
-  scanned_by : (o : Option Content) → content_after f (eqb (length bs) 0) s b ≡ o → ((t : Content) → Scanned f (at + 1) t bs (scan f (at + 1) t bs)) → Scanned f at s (b ∷ bs) (followed o (λ t. scan f (at + 1) t bs) (Err at))
+  scanned_by : (o : Option Content) → content_after f (eqb (length bs) 0) s b ≡ o → ((t : Content) → Scanned f (at + 1) t bs (scan f (at + 1) t bs)) → Scanned f at s (b ∷ bs) (followed o (λ t. scan f (at + 1) t bs) (Err (record { 0 = at })))
   scanned_by (Some t) e ih = scanned_some t e (scan f (at + 1) t bs) (ih t)
   scanned_by None e ih = (0, (sym (add-zero at), (omega arith, record { goes = let a = can_go_on f s (suc (length bs)) in (a.0, (a.1, refl)); ends = refused e })))
 
@@ -86,9 +87,9 @@ module _ (f : Form) (w : ℕ) (o : 1 ≤ w) (h : w ≤ 8) where
   from_text : (l : List ℕ) → FieldText f w l → Accepted f Blank w l
   from_text l t = rw t.1.1 (justified-length w (shown t.0), (t.0, accepted f w t.0 o h t.1.0))
 
-read_as : (f : Form) (at : ℕ) (bs : List ℕ) (r : Result Content ℕ) → 1 ≤ length bs → length bs ≤ 8 → Scanned f at Blank bs r → FieldRead f at bs r
+read_as : (f : Form) (at : ℕ) (bs : List ℕ) (r : Result Content WrongColumn) → 1 ≤ length bs → length bs ≤ 8 → Scanned f at Blank bs r → FieldRead f at bs r
 read_as f at bs (Ok v) o h s = sound f (length bs) bs v refl o h s
 read_as f at bs (Err c) o h s = (s.0, (s.1.0, (s.1.1.0, stops_as (Accepted f Blank (length bs)) (FieldText f (length bs)) (to_text f (length bs) o h) (from_text f (length bs) o h) bs s.0 s.1.1.1)))
 
-pub field_read : (f : Form) (at : ℕ) (bs : List ℕ) (r : Result Content ℕ) → 1 ≤ length bs → length bs ≤ 8 → scan f at Blank bs ≡ r → FieldRead f at bs r
+pub field_read : (f : Form) (at : ℕ) (bs : List ℕ) (r : Result Content WrongColumn) → 1 ≤ length bs → length bs ≤ 8 → scan f at Blank bs ≡ r → FieldRead f at bs r
 field_read f at bs r o h e = read_as f at bs r o h (rw e at (scanned f at Blank bs))

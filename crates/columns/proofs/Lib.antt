@@ -6,5 +6,4 @@ pub mod Columns
 pub mod Words
 pub mod Missing
 pub mod Fields
-pub mod Filled
 pub mod Written

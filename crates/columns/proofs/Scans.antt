@@ -4,6 +4,7 @@ use native.Mathlib.Nat.{pow-le-pow_right}
 use Rattle.std.proofs.lemmas.Bool.Decides.{nat_tests}
 use Rattle.columns.specs.declared.field.Form.{Form}
 use Rattle.columns.specs.declared.field.Content.{Content}
+use Rattle.columns.specs.declared.wrong.WrongColumn.{WrongColumn}
 use Rattle.columns.specs.Field.{content_after, size_of}
 
 abbrev pub followed : {A : Type 0} → Option Content → (Content → A) → A → A
@@ -11,9 +12,9 @@ followed (Some t) go stop = go t
 followed None go stop = stop
 
 -- the field from a column on: the content at its end, or the first column at which no field goes on
-abbrev pub scan : Form → ℕ → Content → List ℕ → Result Content ℕ
+abbrev pub scan : Form → ℕ → Content → List ℕ → Result Content WrongColumn
 scan f at s [] = Ok s
-scan f at s (b ∷ bs) = followed (content_after f (eqb (length bs) 0) s b) (λ t. scan f (at + 1) t bs) (Err at)
+scan f at s (b ∷ bs) = followed (content_after f (eqb (length bs) 0) s b) (λ t. scan f (at + 1) t bs) (Err (record { 0 = at }))
 
 last_is : (n i : ℕ) → i < n → eqb (n - suc i) 0 ≡ eqb (i + 1) n
 last_is n i h = grind (arith, nat_tests)
@@ -25,7 +26,7 @@ module _ (f : Form) (at : ℕ) (s : Content) (xs : List ℕ) (i : ℕ) (h : i < 
   pub scan_more : (t : Content) → Some t ≡ content_after f (eqb (i + 1) (length xs)) s (get_or xs i 0) → scan f at s (drop i xs) ≡ scan f (at + 1) t (drop (i + 1) xs)
   scan_more t e = rw (drop-cons xs i 0, last_at, ← e, add-one i)
 
-  pub scan_stop : None ≡ content_after f (eqb (i + 1) (length xs)) s (get_or xs i 0) → scan f at s (drop i xs) ≡ Err at
+  pub scan_stop : None ≡ content_after f (eqb (i + 1) (length xs)) s (get_or xs i 0) → scan f at s (drop i xs) ≡ Err (record { 0 = at })
   scan_stop e = rw (drop-cons xs i 0, last_at, ← e)
 
 pub scan_end : (f : Form) (at : ℕ) (s : Content) (xs : List ℕ) (i : ℕ) → length xs ≤ i → scan f at s (drop i xs) ≡ Ok s

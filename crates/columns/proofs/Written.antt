@@ -1,14 +1,13 @@
 -- A number is written from its last column to its first.
-use Rattle.std.proofs.Common.{◌≡◌, ℕ, zero, suc, ◌-◌, ◌^◌, ◌<◌, ◌≤◌, ◌⊎◌, List, [], ◌∷◌, ◌++◌, length, ℤ, pos, negsuc, sym, refl, ap, ◌∙◌, ⊎_elim, arith}
+use Rattle.std.proofs.Common.{◌≡◌, ℕ, zero, suc, ◌-◌, ◌^◌, ◌<◌, ◌≤◌, ◌⊎◌, List, [], ◌∷◌, ◌++◌, length, drop, set, ℤ, pos, negsuc, sym, refl, ap, ◌∙◌, ⊎_elim, append_assoc, add-one, arith}
 use Rattle.std.specs.Fmt.{signed_decimal}
-use Rattle.std.proofs.lemmas.List.{drop_all}
+use Rattle.std.proofs.lemmas.List.{drop_all, drop-set}
 use Rattle.std.proofs.lemmas.Bool.Decides.{nat_tests}
 use Rattle.std.proofs.lemmas.Fmt.{decimal_digit, decimal_step}
 use Rattle.columns.specs.declared.field.Content.{Content}
 use Rattle.columns.specs.declared.field.Content.TheVariants.{Blank, Number}
 use Rattle.columns.specs.Field.{justified, shown, size_of, content_before, content_signed, written, line_text}
 use Rattle.columns.proofs.Justified.{push_justified, push_blank}
-use Rattle.columns.proofs.Missing.{columns}
 
 abbrev Before : Content → Type 0
 Before s = (size_of (content_before s).0 ≤ size_of s) × ((shown s ≡ shown (content_before s).0 ++ ((content_before s).1 ∷ [])) ⊎ ((s ≡ Blank) × (content_before s ≡ (Blank, 32))))
@@ -29,13 +28,26 @@ written_is (suc w) s h =
     (λ (e : (s ≡ Blank) × (content_before s ≡ (Blank, 32))). rw e.0 (ap (λ u. u ++ (32 ∷ [])) (written_is w Blank (omega arith)) ∙ push_blank w))
     b.1
 
+-- one column more, from the last one on
+pub column_written : (whole cs : List ℕ) (s : Content) (i : ℕ) → 0 < i → i ≤ length cs → whole ≡ written i s ++ drop i cs →
+    whole ≡ written (i - 1) (content_before s).0 ++ drop (i - 1) (set cs (i - 1) (content_before s).1)
+column_written whole cs s zero o h e = absurd (omega arith)
+column_written whole cs s (suc i) o h e =
+    let front = (content_before s).0 in
+    let column = (content_before s).1 in
+    let before : suc i - 1 ≡ i = omega arith in
+    rw (before, drop-set cs i column, add-one) (e ∙ append_assoc (written i front) (column ∷ []) (drop (suc i) cs))
+
+pub all_written : (whole cs : List ℕ) (s : Content) (i : ℕ) → i ≤ 0 → whole ≡ written i s ++ drop i cs → cs ≡ whole
+all_written whole cs s zero o e = sym e
+all_written whole cs s (suc i) o e = absurd (omega arith)
+
 pub shown-signed : (z : ℤ) → signed_decimal z ≡ shown (content_signed z)
 shown-signed (pos n) = refl
 shown-signed (negsuc n) = refl
 
-pub line_written : (letter station : ℕ) (v : Content) → station < 2 ^ 64 → size_of v < 2 ^ 64 → (p q : List ℕ) → p ≡ written 3 (Number station) → q ≡ written 8 v →
-    letter ∷ (columns 3 0 p ++ (columns 8 0 q ++ (10 ∷ []))) ≡ line_text letter station (shown v)
-line_written letter station v h g p q d e =
-    let a : columns 3 0 p ≡ justified 3 (shown (Number station)) = ap (columns 3 0) d ∙ written_is 3 (Number station) h in
-    let b : columns 8 0 q ≡ justified 8 (shown v) = ap (columns 8 0) e ∙ written_is 8 v g in
-    ap (λ u. letter ∷ (u ++ (columns 8 0 q ++ (10 ∷ [])))) a ∙ ap (λ u. letter ∷ (justified 3 (shown (Number station)) ++ (u ++ (10 ∷ [])))) b
+pub line_written : (letter station : ℕ) (v : Content) → station < 2 ^ 64 → size_of v < 2 ^ 64 →
+    letter ∷ (written 3 (Number station) ++ (written 8 v ++ (10 ∷ []))) ≡ line_text letter station (shown v)
+line_written letter station v h g =
+    ap (λ u. letter ∷ (u ++ (written 8 v ++ (10 ∷ [])))) (written_is 3 (Number station) h) ∙
+    ap (λ u. letter ∷ (justified 3 (shown (Number station)) ++ (u ++ (10 ∷ [])))) (written_is 8 v g)

@@ -4,6 +4,7 @@ use Rattle.columns.specs.Stops.{Stops}
 use Rattle.columns.specs.declared.field.Form.{Form}
 use Rattle.columns.specs.declared.field.Form.TheVariants.{Natural, Signed, Zero}
 use Rattle.columns.specs.declared.field.Content.{Content}
+use Rattle.columns.specs.declared.wrong.WrongColumn.{WrongColumn}
 use Rattle.columns.specs.declared.field.Content.TheVariants.{Blank, Minus, Number, Negative}
 
 -- bytes, right-justified after spaces in w columns; of more than w bytes the last w
@@ -83,9 +84,9 @@ abbrev pub FieldText : Form → ℕ → List ℕ → Type 0
 FieldText f w l = (v : Content) × (Fits f w v × (l ≡ justified w (shown v)))
 
 -- what the reader of a field answers: the number that stands there, or the column, counted from `at`, where no field goes on
-abbrev pub FieldRead : Form → ℕ → List ℕ → Result Content ℕ → Type 0
+abbrev pub FieldRead : Form → ℕ → List ℕ → Result Content WrongColumn → Type 0
 FieldRead f at bs (Ok v) = Fits f (length bs) v × (bs ≡ justified (length bs) (shown v))
-FieldRead f at bs (Err c) = (d : ℕ) × ((c ≡ at + d) × ((d < length bs) × Stops (FieldText f (length bs)) bs d))
+FieldRead f at bs (Err wrong) = (d : ℕ) × ((wrong.0 ≡ at + d) × ((d < length bs) × Stops (FieldText f (length bs)) bs d))
 
 -- the 12 bytes after a line's letter: a station, the bytes of a value, a line feed
 abbrev pub fields_text : ℕ → List ℕ → List ℕ
@@ -95,9 +96,9 @@ abbrev pub FieldsText : Form → List ℕ → Type 0
 FieldsText f l = (s : ℕ) × ((v : Content) × ((s < 1000) × (Fits f 8 v × (l ≡ fields_text s (shown v)))))
 
 -- what the reader of both fields answers, the column counted from the line's first
-abbrev pub FieldsRead : Form → List ℕ → Result (ℕ × Content) ℕ → Type 0
+abbrev pub FieldsRead : Form → List ℕ → Result (ℕ × Content) WrongColumn → Type 0
 FieldsRead f rest (Ok p) = (p.0 < 1000) × (Fits f 8 p.1 × (take 12 rest ≡ fields_text p.0 (shown p.1)))
-FieldsRead f rest (Err c) = (d : ℕ) × ((c ≡ d + 2) × ((d < 12) × Stops (FieldsText f) rest d))
+FieldsRead f rest (Err wrong) = (d : ℕ) × ((wrong.0 ≡ d + 2) × ((d < 12) × Stops (FieldsText f) rest d))
 
 -- a letter, a station in 3 columns, the bytes of a value in 8 columns, a line feed
 abbrev pub line_text : ℕ → ℕ → List ℕ → List ℕ

@@ -1,2 +1,3 @@
 pub mod Stops
+pub mod Wrong
 pub mod Field

@@ -1,10 +1,12 @@
 ghost use Rattle.std.specs.Prelude.{◌≡◌, ◌^◌, ◌<◌, ◌≤◌, length};
-ghost use Rattle.columns.specs.Field.{content_after, size_of, content_before, FieldRead};
+ghost use Rattle.columns.specs.Field.{content_after, size_of, content_before, content_signed, FieldRead};
+
+use crate::wrong::WrongColumn;
 
 // A field: a decimal number, right-justified after spaces, without leading zeros.
 
 // Which numbers a field takes.
-#[derive(Clone, Copy)]
+#[derive(Clone, Copy, PartialEq, Eq, Debug)]
 pub enum Form {
     Natural,
     Signed,
@@ -12,7 +14,7 @@ pub enum Form {
 }
 
 // What the columns of a field hold: nothing, a minus sign alone, a number, or a number after a minus sign.
-#[derive(Clone, Copy)]
+#[derive(Clone, Copy, PartialEq, Eq, Debug)]
 pub enum Content {
     Blank,
     Minus,
@@ -26,23 +28,19 @@ impl Content {
         requires { size_of self < 10 ^ 8 }
         ensures { result ≡ content_after form last self column }
     {
-        match (self, char::from(column)) {
-            (Content::Blank, ' ') if !last => Some(Content::Blank),
-            (Content::Blank, '0') if last => Some(Content::Number(0)),
-            (Content::Blank, '1'..='9') => match form {
-                Form::Zero => None,
-                _ => Some(Content::Number((column - b'0') as u64)),
-            },
-            (Content::Blank, '-') if !last => match form {
-                Form::Signed => Some(Content::Minus),
-                _ => None,
-            },
-            (Content::Minus, '1'..='9') => Some(Content::Negative((column - b'0') as u64)),
-            (Content::Number(n), '0'..='9') => {
-                Some(Content::Number(n * 10 + (column - b'0') as u64))
+        match (self, column) {
+            (Content::Blank, b' ') if !last => Some(Content::Blank),
+            (Content::Blank, b'0') if last => Some(Content::Number(0)),
+            (Content::Blank, b'1'..=b'9') if form != Form::Zero => {
+                Some(Content::Number(u64::from(column - b'0')))
             }
-            (Content::Negative(n), '0'..='9') => {
-                Some(Content::Negative(n * 10 + (column - b'0') as u64))
+            (Content::Blank, b'-') if !last && form == Form::Signed => Some(Content::Minus),
+            (Content::Minus, b'1'..=b'9') => Some(Content::Negative(u64::from(column - b'0'))),
+            (Content::Number(n), b'0'..=b'9') => {
+                Some(Content::Number(n * 10 + u64::from(column - b'0')))
+            }
+            (Content::Negative(n), b'0'..=b'9') => {
+                Some(Content::Negative(n * 10 + u64::from(column - b'0')))
             }
             _ => None,
         }
@@ -73,8 +71,21 @@ impl Content {
     }
 }
 
+impl From<i32> for Content {
+    ghost from_gives = { λ number content. content ≡ content_signed number };
+
+    fn from(number: i32) -> Content {
+        let size = u64::from(number.unsigned_abs());
+        if number < 0 {
+            Content::Negative(size)
+        } else {
+            Content::Number(size)
+        }
+    }
+}
+
 // Reads a field whose first column is the column `first` of its line.
-pub(crate) fn read_field(form: Form, first: usize, field: &[u8]) -> Result<Content, usize>
+pub(crate) fn read_field(form: Form, first: usize, field: &[u8]) -> Result<Content, WrongColumn>
     requires on_line { first ≤ 13 }
     requires some { 1 ≤ length field.now }
     requires few { length field.now ≤ 8 }
@@ -83,10 +94,9 @@ pub(crate) fn read_field(form: Form, first: usize, field: &[u8]) -> Result<Conte
     let mut content = Content::Blank;
     for (i, column) in field.iter().enumerate() {
         let last = i + 1 == field.len();
-        match content.after(form, last, *column) {
-            Some(more) => content = more,
-            None => return Err(first + i),
-        }
+        content = content
+            .after(form, last, *column)
+            .ok_or(WrongColumn(first + i))?;
     }
     Ok(content)
 }

@@ -5,3 +5,4 @@
 pub mod field;
 pub mod read;
 pub mod write;
+pub mod wrong;
