@@ -10,6 +10,7 @@ use Rattle.columns.specs.declared.field.Content.{Content}
 use Rattle.columns.specs.declared.field.Content.TheVariants.{Blank, Minus, Number, Negative}
 use Rattle.sheet.specs.declared.line.Call.{Call}
 use Rattle.sheet.specs.declared.line.Call.TheVariants.{Order, Slot}
+use Rattle.columns.specs.declared.wrong.WrongColumn.{WrongColumn}
 use Rattle.columns.specs.Field.{shown, number_of, content_signed, Fits, fields_text}
 use Rattle.sheet.specs.Line.{call_letter, call_station, call_value, call_text, FitsCall, Wrong, LegalLater, CallRead}
 use Rattle.columns.proofs.Written.{shown-signed}
@@ -119,7 +120,7 @@ module _ (text : List ℕ) where
   no_call n = wrong_letter Call call_text FitsCall calls text (λ some k. elim k [ inl e ↦ (n some).0 e | inr j ↦ elim j [ inl e ↦ (n some).1 e | inr i ↦ elim i [ inl e ↦ (n some).2 e | inr e ↦ (n some).3 e ] ] ])
 
   module _ (a : ℕ) (e : a ≡ get_or text 0 0) (k : Known a) where
-    pub call_wrong : (c : ℕ) → Read text (form_at a) (Err c) → Wrong LegalLater text c
+    pub call_wrong : (c : WrongColumn) → Read text (form_at a) (Err c) → Wrong LegalLater text c.0
     unfolding calls
     call_wrong c h = wrong Call call_text FitsCall calls text a e k c h
 

@@ -6,6 +6,7 @@ use Rattle.columns.specs.declared.field.Form.{Form}
 use Rattle.columns.specs.declared.field.Form.TheVariants.{Natural}
 use Rattle.columns.specs.declared.field.Content.{Content}
 use Rattle.columns.specs.declared.field.Content.TheVariants.{Blank, Number}
+use Rattle.columns.specs.declared.wrong.WrongColumn.{WrongColumn}
 use Rattle.columns.specs.Field.{justified, shown, Fits, fields_text, FieldsText, FieldsRead}
 use Rattle.columns.specs.Stops.{Stops}
 use Rattle.sheet.specs.Line.{Wrong}
@@ -52,10 +53,10 @@ pub record Lines (X : Type 0) (text_of : X → List ℕ) (Fit : X → Type 0) : 
   pub made : (a s : ℕ) (v : Content) → Known a → s < 1000 → Fits (form_at a) 8 v → Fit (from a s v) × (text_of (from a s v) ≡ a ∷ fields_text s (shown v))
 
 -- what the reader of the fields says of the bytes after a text's first
-abbrev pub Read : List ℕ → Form → Result (ℕ × Content) ℕ → Type 0
+abbrev pub Read : List ℕ → Form → Result (ℕ × Content) WrongColumn → Type 0
 Read text f r = FieldsRead f (take (length text - 1) (drop 1 text)) r
 
-read-on : (text : List ℕ) (f : Form) (r : Result (ℕ × Content) ℕ) → Read text f r → FieldsRead f (drop 1 text) r
+read-on : (text : List ℕ) (f : Form) (r : Result (ℕ × Content) WrongColumn) → Read text f r → FieldsRead f (drop 1 text) r
 read-on text f r h = subst (λ t. FieldsRead f t r) (take_rest text 1) h
 
 module _ (X : Type 0) (text_of : X → List ℕ) (Fit : X → Type 0) (g : Lines X text_of Fit) where
@@ -101,9 +102,9 @@ module _ (X : Type 0) (text_of : X → List ℕ) (Fit : X → Type 0) (g : Lines
         let r : take (suc d) l ≡ take (suc d) rest = cc in
         st.ends l (subst (λ b. FieldsText (g.form_at b) l) p (only y l q).1) r
 
-    wrong_fields : (c : ℕ) → FieldsRead (g.form_at a) rest (Err c) → Wrong Legal (a ∷ rest) c
+    wrong_fields : (c : WrongColumn) → FieldsRead (g.form_at a) rest (Err c) → Wrong Legal (a ∷ rest) c.0
     wrong_fields c (d, (e, (h, st))) =
-        let n : suc (suc d) ≡ c = omega arith in
+        let n : suc (suc d) ≡ c.0 = omega arith in
         let w = st.goes in
         let z : length w.0 ≡ 12 = sized_fields (g.form_at a) w.0 w.1.0 in
         let m : min d (length w.0) ≡ min d (length rest) = sym (length-take d w.0) ∙ ap length w.1.1 ∙ length-take d rest in
@@ -129,8 +130,8 @@ module _ (X : Type 0) (text_of : X → List ℕ) (Fit : X → Type 0) (g : Lines
         let some : 1 ≤ length text = ⊎_elim (λ (l : length text < 1). let z = get_or_past text 0 0 (omega arith) in absurd (omega arith)) (λ l. l) (cases_lt (length text) 1) in
         rw e (drop-cons text 0 0 some)
 
-    pub wrong : (c : ℕ) → Read text (g.form_at a) (Err c) → Wrong Legal text c
-    wrong c h = subst (λ t. Wrong Legal t c) (sym split) (wrong_fields a k (drop 1 text) c (read-on text (g.form_at a) (Err c) h))
+    pub wrong : (c : WrongColumn) → Read text (g.form_at a) (Err c) → Wrong Legal text c.0
+    wrong c h = subst (λ t. Wrong Legal t c.0) (sym split) (wrong_fields a k (drop 1 text) c (read-on text (g.form_at a) (Err c) h))
 
     pub right : (s : ℕ) (v : Content) → Read text (g.form_at a) (Ok (s, v)) → Fit (g.from a s v) × (take 13 text ≡ text_of (g.from a s v))
     right s v h = let r = right_fields a k (drop 1 text) s v (read-on text (g.form_at a) (Ok (s, v)) h) in (r.0, ap (take 13) split ∙ r.1)

@@ -1,10 +1,9 @@
 -- A text is read in one way: a rest that begins with no legal line ends the reading, and a line's wrong column is one number.
-use Rattle.std.proofs.Common.{◌≡◌, ℕ, ◌+◌, ◌<◌, List, [], ◌∷◌, ◌++◌, length, sym, refl, ap, ◌∙◌, subst, inl, inr, append_assoc, arith, length-append}
+use Rattle.std.proofs.Common.{◌≡◌, ℕ, ◌+◌, ◌<◌, List, [], ◌∷◌, ◌++◌, length, Some, None, Option, sym, refl, ap, ◌∙◌, subst, inl, inr, append_assoc, arith, length-append}
 use lib.Seq.{take-append-le}
 use Rattle.std.specs.List.{flat_map, AllByRecursion}
 use Rattle.std.proofs.lemmas.Bool.{cases_lt}
-use Rattle.sheet.specs.declared.calls.Stop.{Stop}
-use Rattle.sheet.specs.declared.calls.Stop.TheVariants as stop
+use Rattle.sheet.specs.declared.calls.WrongForm.{WrongForm}
 use Rattle.sheet.specs.declared.line.Call.{Call}
 use Rattle.sheet.specs.Line.{call_text, FitsCall, LegalLater, Wrong}
 use Rattle.sheet.specs.Sheet.{Ends, OneReading}
@@ -31,14 +30,14 @@ module _ (Legal : List ℕ → Type 0) where
 abbrev Stuck : List ℕ → Type 0
 Stuck rest = (x : Call) (more : List ℕ) → FitsCall x → rest ≡ call_text x ++ more → ⊥
 
-stuck : (at : ℕ) (rest : List ℕ) (s : Stop) → Ends at rest s → Stuck rest
-stuck at rest stop.End h x more f e =
+stuck : (at : ℕ) (rest : List ℕ) (s : Option WrongForm) → Ends at rest s → Stuck rest
+stuck at rest None h x more f e =
     let n = call_length x in
     let m : length (call_text x ++ more) ≡ 0 = ap length (sym e ∙ h) in
     let a = length-append (call_text x) more in
     omega arith
-stuck at rest (stop.Wrong line column) h x more f e =
-    legal_not_wrong LegalLater (call_text x) more (call_length x) (x, (f, refl)) column (subst (λ r. Wrong LegalLater r column) e h.1.1)
+stuck at rest (Some wrong) h x more f e =
+    legal_not_wrong LegalLater (call_text x) more (call_length x) (x, (f, refl)) wrong.column (subst (λ r. Wrong LegalLater r wrong.column) e h.1.1)
 
 abbrev after : List Call → List ℕ → List ℕ
 after xs rest = flat_map call_text xs ++ rest
@@ -54,16 +53,16 @@ same-calls (x ∷ xs) (y ∷ ys) r q f g s t e =
     let c = b.0 in
     (cc, b.1)
 
-same_stop : (at : ℕ) (rest : List ℕ) (s t : Stop) → Ends at rest s → Ends at rest t → s ≡ t
-same_stop at rest stop.End stop.End p q = refl
-same_stop at rest stop.End (stop.Wrong l c) p q = let n : length rest ≡ 0 = ap length p in let m = q.1.0 in absurd (omega arith)
-same_stop at rest (stop.Wrong l c) stop.End p q = let n : length rest ≡ 0 = ap length q in let m = p.1.0 in absurd (omega arith)
-same_stop at rest (stop.Wrong l c) (stop.Wrong k d) p q =
-    let a = one_column LegalLater rest c d p.1.1 q.1.1 in
-    let b : l ≡ k = p.0 ∙ sym q.0 in cc
+same_end : (at : ℕ) (rest : List ℕ) (s t : Option WrongForm) → Ends at rest s → Ends at rest t → s ≡ t
+same_end at rest None None p q = refl
+same_end at rest None (Some w) p q = let n : length rest ≡ 0 = ap length p in let m = q.1.0 in absurd (omega arith)
+same_end at rest (Some w) None p q = let n : length rest ≡ 0 = ap length q in let m = p.1.0 in absurd (omega arith)
+same_end at rest (Some v) (Some w) p q =
+    ap (λ line. Some (record { line = line; column = v.column })) (p.0 ∙ sym q.0) ∙
+    ap (λ column. Some (record { line = w.line; column = column })) (one_column LegalLater rest v.column w.column p.1.1 q.1.1)
 
 pub one_reading : OneReading
 one_reading first text xs ys s t p q =
     let (same, rests) = same-calls xs ys p.rest q.rest p.fits q.fits (stuck _ p.rest s p.ends) (stuck _ q.rest t q.ends) (sym p.split ∙ q.split) in
     let ends : Ends (first + length xs) p.rest t = rw (rests, same) q.ends in
-    (same, same_stop (first + length xs) p.rest s t p.ends ends)
+    (same, same_end (first + length xs) p.rest s t p.ends ends)

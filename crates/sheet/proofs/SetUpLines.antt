@@ -6,6 +6,7 @@ use Rattle.columns.specs.declared.field.Form.TheVariants.{Natural}
 use Rattle.columns.specs.declared.field.Content.{Content}
 use Rattle.columns.specs.declared.field.Content.TheVariants.{Number}
 use Rattle.sheet.specs.declared.line.SetUp.{SetUp}
+use Rattle.columns.specs.declared.wrong.WrongColumn.{WrongColumn}
 use Rattle.columns.specs.Field.{shown, size_of, Fits, fields_text}
 use Rattle.sheet.specs.Line.{kind_letter, set_up_text, FitsSetUp, Wrong, LegalFirst, SetUpRead}
 use Rattle.sheet.proofs.Lines.{Lines, Read, wrong_letter, wrong, right}
@@ -66,7 +67,7 @@ module _ (text : List ℕ) where
   no_set_up n = wrong_letter SetUp set_up_text FitsSetUp set_ups text (λ some k. elim k [ inl e ↦ n some Fast e | inr e ↦ n some OneBit e ])
 
   module _ (k : LockKind) (e : kind_letter k ≡ get_or text 0 0) where
-    pub set_up_wrong : (c : ℕ) → Read text Natural (Err c) → Wrong LegalFirst text c
+    pub set_up_wrong : (c : WrongColumn) → Read text Natural (Err c) → Wrong LegalFirst text c.0
     unfolding set_ups
     set_up_wrong c h = wrong SetUp set_up_text FitsSetUp set_ups text (kind_letter k) e (known k) c h
 

@@ -8,6 +8,7 @@ use Rattle.kinds.specs.declared.LockKind.TheVariants.{Fast, OneBit}
 use Rattle.sheet.specs.declared.line.SetUp.{SetUp}
 use Rattle.sheet.specs.declared.line.Call.{Call}
 use Rattle.sheet.specs.declared.line.Call.TheVariants.{Order, Slot}
+use Rattle.columns.specs.declared.wrong.WrongColumn.{WrongColumn}
 use Rattle.columns.specs.Field.{line_text}
 
 -- 'F' and 'B'
@@ -79,13 +80,13 @@ abbrev pub KindRead : ℕ → Option LockKind → Type 0
 KindRead letter (Some k) = letter ≡ kind_letter k
 KindRead letter None = (k : LockKind) → letter ≢ kind_letter k
 
-abbrev pub SetUpRead : List ℕ → Result SetUp ℕ → Type 0
+abbrev pub SetUpRead : List ℕ → Result SetUp WrongColumn → Type 0
 SetUpRead text (Ok x) = FitsSetUp x × (take 13 text ≡ set_up_text x)
-SetUpRead text (Err c) = Wrong LegalFirst text c
+SetUpRead text (Err wrong) = Wrong LegalFirst text wrong.0
 
-abbrev pub CallRead : List ℕ → Result Call ℕ → Type 0
+abbrev pub CallRead : List ℕ → Result Call WrongColumn → Type 0
 CallRead text (Ok x) = FitsCall x × (take 13 text ≡ call_text x)
-CallRead text (Err c) = Wrong LegalLater text c
+CallRead text (Err wrong) = Wrong LegalLater text wrong.0
 
 -- a line says one thing
 abbrev pub OneSetUp : Type 0

@@ -3,45 +3,44 @@ ghost use Rattle.sheet.specs.Sheet.{Later, OneReading};
 
 use crate::line::Call;
 use crate::read::read_call;
+use columns::wrong::WrongColumn;
 use std::alloc::{AllocError, Global};
 
-// Where the reading of calls ends: at the end of the text, or at a line of wrong form.
+// A line of wrong form: its number on the sheet, and its wrong column.
 #[derive(Clone, Copy, PartialEq, Eq, Debug)]
-pub enum Stop {
-    End,
-    Wrong { line: usize, column: usize },
+pub struct WrongForm {
+    pub line: usize,
+    pub column: usize,
 }
 
-// The calls of a text, and where the reading of them ends.
+// The calls of a text, up to its end or to a line of wrong form.
 #[derive(Drop)]
 pub struct Calls {
     pub calls: Vec<Call>,
-    pub stop: Stop,
+    pub wrong: Option<WrongForm>,
 }
 
 // Reads the calls of a sheet, from its second line on.
 pub fn read_calls(heap: Global, text: &[u8]) -> Result<Calls, AllocError>
-    ensures { IfOk result (λ c. Later 2 text.now c.calls.items c.stop) }
+    ensures { IfOk result (λ c. Later 2 text.now c.calls.items c.wrong) }
 {
     let mut calls = Vec::new(heap);
-    let mut at = 0;
-    while at < text.len() {
-        match read_call(&text[at..]) {
+    for line in text.chunks(13) {
+        match read_call(line) {
             Ok(call) => calls.push(call)?,
-            Err(column) => {
-                let line = calls.len() + 2;
+            Err(WrongColumn(column)) => {
+                let wrong = WrongForm {
+                    line: calls.len() + 2,
+                    column,
+                };
                 return Ok(Calls {
                     calls,
-                    stop: Stop::Wrong { line, column },
+                    wrong: Some(wrong),
                 });
             }
         }
-        at += 13;
     }
-    Ok(Calls {
-        calls,
-        stop: Stop::End,
-    })
+    Ok(Calls { calls, wrong: None })
 }
 
 // A text is read in one way.

@@ -5,6 +5,7 @@ ghost use Rattle.sheet.specs.Line.{KindRead, SetUpRead, CallRead, OneSetUp, OneC
 use crate::line::{Call, SetUp};
 use columns::field::{Content, Form};
 use columns::read::read_fields;
+use columns::wrong::WrongColumn;
 use feed::job::Job;
 use kinds::LockKind;
 
@@ -31,15 +32,13 @@ fn kind_of(letter: u8) -> Option<LockKind>
 }
 
 // Reads the first line of a sheet: what it says, or its wrong column.
-pub fn read_set_up(text: &[u8]) -> Result<SetUp, usize>
+pub fn read_set_up(text: &[u8]) -> Result<SetUp, WrongColumn>
     ensures { SetUpRead text.now result }
 {
     let [letter, rest @ ..] = text else {
-        return Err(1);
+        return Err(WrongColumn(1));
     };
-    let Some(kind) = kind_of(*letter) else {
-        return Err(1);
-    };
+    let kind = kind_of(*letter).ok_or(WrongColumn(1))?;
     let (stations, start) = read_fields(Form::Natural, rest)?;
     Ok(SetUp {
         kind,
@@ -49,11 +48,11 @@ pub fn read_set_up(text: &[u8]) -> Result<SetUp, usize>
 }
 
 // Reads a later line: what it says, or its wrong column.
-pub fn read_call(text: &[u8]) -> Result<Call, usize>
+pub fn read_call(text: &[u8]) -> Result<Call, WrongColumn>
     ensures { CallRead text.now result }
 {
     let [letter, rest @ ..] = text else {
-        return Err(1);
+        return Err(WrongColumn(1));
     };
     match char::from(*letter) {
         'T' => {
@@ -72,7 +71,7 @@ pub fn read_call(text: &[u8]) -> Result<Call, usize>
             let (station, _) = read_fields(Form::Zero, rest)?;
             Ok(Call::Slot(station))
         }
-        _ => Err(1),
+        _ => Err(WrongColumn(1)),
     }
 }
 
