@@ -1,12 +1,11 @@
 -- The lines of the output: those of the calls have the letter and the station of the call.
-use Rattle.std.specs.Prelude.{ℕ, List, [], ◌++◌, decimal}
+use Rattle.std.specs.Prelude.{ℕ, List, [], ◌++◌, Some, None, decimal, Option}
 use Rattle.std.specs.Fmt.{signed_decimal}
 use Rattle.answers.specs.Numbers.{order_number, slot_number}
 use Rattle.answers.specs.declared.View.{View}
 use Rattle.runs.specs.declared.events.Event.{Event}
 use Rattle.runs.specs.declared.events.Event.TheVariants.{Ordered, Slotted, Looked, Shown}
-use Rattle.sheet.specs.declared.calls.Stop.{Stop}
-use Rattle.sheet.specs.declared.calls.Stop.TheVariants as stop
+use Rattle.sheet.specs.declared.calls.WrongForm.{WrongForm as Place}
 use Rattle.sheet.specs.declared.line.SetUp.{SetUp}
 use Rattle.columns.specs.Field.{line_text}
 use Rattle.sheet.specs.Line.{kind_letter, job_letter}
@@ -25,12 +24,12 @@ event_line (Looked station answer) = []
 event_line (Shown view) = []
 
 abbrev pub sheet_refusal_number : SheetRefusal → ℕ
-sheet_refusal_number (WrongForm line column) = 8
+sheet_refusal_number (WrongForm place) = 8
 sheet_refusal_number TooLong = 9
 
 -- 'X' with the wrong column and its line; with 0 and 0 for a sheet that is too long
 abbrev pub sheet_refusal_line : SheetRefusal → List ℕ
-sheet_refusal_line (WrongForm line column) = line_text 88 column (decimal line)
+sheet_refusal_line (WrongForm place) = line_text 88 place.column (decimal place.line)
 sheet_refusal_line TooLong = line_text 88 0 (decimal 0)
 
 -- 'P', 'D' and 'W': the setpoint, the depth and the signer
@@ -38,6 +37,6 @@ abbrev pub board_lines : View → List ℕ
 board_lines v = line_text 80 0 (signed_decimal v.setpoint) ++ (line_text 68 0 (signed_decimal v.depth) ++ line_text 87 0 (signed_decimal v.signer))
 
 -- the board at the end of the text; the place of a line of wrong form in place of it
-abbrev pub end_lines : Stop → View → List ℕ
-end_lines stop.End v = board_lines v
-end_lines (stop.Wrong line column) v = sheet_refusal_line (WrongForm line column)
+abbrev pub end_lines : Option Place → View → List ℕ
+end_lines None v = board_lines v
+end_lines (Some place) v = sheet_refusal_line (WrongForm place)

@@ -13,14 +13,14 @@ use columns::write::{write_line, write_signed};
 use feed::job::Job;
 use kinds::LockKind;
 use runs::events::Event;
-use sheet::calls::Stop;
+use sheet::calls::WrongForm;
 use sheet::line::SetUp;
 use std::alloc::AllocError;
 
 // Why a sheet, or the rest of it, is not read.
 #[derive(Clone, Copy, PartialEq, Eq, Debug)]
 pub enum SheetRefusal {
-    WrongForm { line: usize, column: usize },
+    WrongForm(WrongForm),
     TooLong,
 }
 
@@ -29,7 +29,7 @@ impl SheetRefusal {
         ensures { result ≡ sheet_refusal_number self }
     {
         match self {
-            SheetRefusal::WrongForm { .. } => 8,
+            SheetRefusal::WrongForm(_) => 8,
             SheetRefusal::TooLong => 9,
         }
     }
@@ -39,7 +39,7 @@ impl SheetRefusal {
         ensures { result ≡ sheet_refusal_line self }
     {
         match self {
-            SheetRefusal::WrongForm { line, column } => {
+            SheetRefusal::WrongForm(WrongForm { line, column }) => {
                 write_line(b'X', column, Content::Number(line as u64))
             }
             SheetRefusal::TooLong => write_line(b'X', 0, Content::Number(0)),
@@ -129,14 +129,11 @@ fn add_board(out: &mut Vec<u8>, board: View) -> Result<(), AllocError>
 }
 
 // Adds the lines of the end: the board, or the place of a line of wrong form.
-pub fn add_end(out: &mut Vec<u8>, stop: Stop, board: View) -> Result<(), AllocError>
-    ensures { OnOk result (out.new.items ≡ out.old.items ++ end_lines stop board) }
+pub fn add_end(out: &mut Vec<u8>, wrong: Option<WrongForm>, board: View) -> Result<(), AllocError>
+    ensures { OnOk result (out.new.items ≡ out.old.items ++ end_lines wrong board) }
 {
-    match stop {
-        Stop::End => add_board(out, board),
-        Stop::Wrong { line, column } => {
-            let refusal = SheetRefusal::WrongForm { line, column };
-            out.extend_from_slice(&refusal.to_line())
-        }
+    match wrong {
+        None => add_board(out, board),
+        Some(wrong) => out.extend_from_slice(&SheetRefusal::WrongForm(wrong).to_line()),
     }
 }
