@@ -1,2 +1,3 @@
 pub mod Line
+pub mod Calls
 pub mod Sheet
