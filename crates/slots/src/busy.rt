@@ -1,0 +1,72 @@
+// A rack that is kept at work.
+use answers::{Refusal, Served};
+use feed::job::Job;
+use lock::Lock;
+use rack::calls::Rack;
+
+const START: u32 = 200_000;
+
+const PERMILLE: i32 = 33;
+
+// A rack whose stations never run out of jobs, and the job that is given out next.
+#[derive(Drop)]
+pub struct Busy<L> {
+    rack: Rack<L>,
+    next: Job,
+}
+
+// The jobs in the order in which they are given out. Each trim is followed by an undo, so that the pile stays low.
+fn job_after(job: Job) -> Job {
+    match job {
+        Job::Trim(_) => Job::Undo,
+        Job::Undo => Job::Sign(START as i32),
+        Job::Sign(_) => Job::Trim(PERMILLE),
+    }
+}
+
+impl<L: Lock + Drop> Busy<L> {
+    pub fn set_up(lock: L) -> Result<Busy<L>, Refusal> {
+        let rack = Rack::set_up(lock, START)?;
+        let next = Job::Trim(PERMILLE);
+        Ok(Busy { rack, next })
+    }
+}
+
+impl<L: Lock> Busy<L> {
+    // Gives the station the next job.
+    pub fn order(&mut self, station: usize) -> u64 {
+        let answer = match self.rack.order(station, self.next) {
+            Ok(()) => 0,
+            Err(refusal) => u64::from(refusal.number()),
+        };
+        self.next = job_after(self.next);
+        answer
+    }
+
+    // One slot, and a new order for a station that comes to rest.
+    pub fn serve(&mut self, station: usize) -> u64 {
+        match self.rack.slot(station) {
+            Ok(Served::NowResting) => {
+                let answer = u64::from(Served::NowResting.number());
+                answer.wrapping_add(self.order(station))
+            }
+            Ok(served) => u64::from(served.number()),
+            Err(refusal) => u64::from(refusal.number()),
+        }
+    }
+
+    // What a look at the station and a look at the board show, summed.
+    pub fn shown(&self, station: usize) -> u64 {
+        let seen = match self.rack.look(station) {
+            Ok(seen) => u64::from(seen.stage.number())
+                .wrapping_add(u64::from(seen.count))
+                .wrapping_add(u64::from(seen.last_number())),
+            Err(refusal) => u64::from(refusal.number()),
+        };
+        let view = self.rack.board();
+        seen.wrapping_add(u64::from(view.setpoint.unsigned_abs()))
+            .wrapping_add(u64::from(view.depth.unsigned_abs()))
+            .wrapping_add(u64::from(view.signer.unsigned_abs()))
+            .wrapping_add(view.inside_number() as u64)
+    }
+}
