@@ -106,8 +106,8 @@ fn board_name(register: Register) -> Name {
 }
 
 // The access of the station's next slot, on the board if it is inside and else on its lock. It tells nothing where the slot makes none.
-pub fn tell_next<L: Tells, W: fmt::Write>(
-    out: &mut W,
+pub fn tell_next<L: Tells>(
+    out: &mut impl fmt::Write,
     rack: &Rack<L>,
     station: usize,
 ) -> fmt::Result {

@@ -6,7 +6,7 @@ use lock::Lock;
 use rack::calls::Rack;
 use std::fmt;
 
-fn draw_station<W: fmt::Write>(out: &mut W, station: usize, seen: Seen) -> fmt::Result {
+fn draw_station(out: &mut impl fmt::Write, station: usize, seen: Seen) -> fmt::Result {
     let stage = stage_words(seen.stage);
     let count = seen.count;
     match seen.last {
@@ -25,25 +25,25 @@ fn draw_station<W: fmt::Write>(out: &mut W, station: usize, seen: Seen) -> fmt::
     }
 }
 
-fn draw_pile<L: Lock, W: fmt::Write>(out: &mut W, rack: &Rack<L>, depth: i32) -> fmt::Result {
+fn draw_pile<L: Lock>(out: &mut impl fmt::Write, rack: &Rack<L>, depth: i32) -> fmt::Result {
     if depth == 0 {
         return out.write_str(" empty\n");
     }
-    for k in 0..depth {
-        let entry = rack.register(Register::Entry(k + 1));
+    for k in 1..=depth {
+        let entry = rack.register(Register::Entry(k));
         write!(out, " {entry}")?;
     }
     out.write_str("\n")
 }
 
-fn draw_signer<W: fmt::Write>(out: &mut W, signer: i32) -> fmt::Result {
+fn draw_signer(out: &mut impl fmt::Write, signer: i32) -> fmt::Result {
     match signer {
         0 => out.write_str("  signer: nobody\n"),
         _ => writeln!(out, "  signer: station {signer}"),
     }
 }
 
-fn draw_inside<W: fmt::Write>(out: &mut W, inside: Option<usize>) -> fmt::Result {
+fn draw_inside(out: &mut impl fmt::Write, inside: Option<usize>) -> fmt::Result {
     match inside {
         Some(station) => writeln!(
             out,
@@ -53,10 +53,9 @@ fn draw_inside<W: fmt::Write>(out: &mut W, inside: Option<usize>) -> fmt::Result
     }
 }
 
-pub fn draw<L: Lock, W: fmt::Write>(out: &mut W, rack: &Rack<L>, stations: usize) -> fmt::Result {
+pub fn draw<L: Lock>(out: &mut impl fmt::Write, rack: &Rack<L>, stations: usize) -> fmt::Result {
     out.write_str("The rack at the end:\n")?;
-    for i in 0..stations {
-        let station = i + 1;
+    for station in 1..=stations {
         if let Ok(seen) = rack.look(station) {
             draw_station(out, station, seen)?;
         }

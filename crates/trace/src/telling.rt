@@ -7,7 +7,7 @@ use rack::calls::Rack;
 use sheet::line::Call;
 use std::fmt;
 
-fn tell_verdict<W: fmt::Write>(out: &mut W, verdict: Verdict) -> fmt::Result {
+fn tell_verdict(out: &mut impl fmt::Write, verdict: Verdict) -> fmt::Result {
     let words = verdict_words(verdict);
     let verdict_number = verdict.number();
     let number = Served::Ended(verdict).number();
@@ -17,7 +17,7 @@ fn tell_verdict<W: fmt::Write>(out: &mut W, verdict: Verdict) -> fmt::Result {
     )
 }
 
-fn tell_served<W: fmt::Write>(out: &mut W, served: Served) -> fmt::Result {
+fn tell_served(out: &mut impl fmt::Write, served: Served) -> fmt::Result {
     let words = match served {
         Served::StillTrying => "still trying",
         Served::NowInside => "now inside",
@@ -30,8 +30,8 @@ fn tell_served<W: fmt::Write>(out: &mut W, served: Served) -> fmt::Result {
     writeln!(out, "{words} ({number})")
 }
 
-fn tell_order<L: Tells, W: fmt::Write>(
-    out: &mut W,
+fn tell_order<L: Tells>(
+    out: &mut impl fmt::Write,
     rack: &mut Rack<L>,
     station: usize,
     job: Job,
@@ -45,8 +45,8 @@ fn tell_order<L: Tells, W: fmt::Write>(
 }
 
 // The access is told before the slot makes it.
-fn tell_slot<L: Tells, W: fmt::Write>(
-    out: &mut W,
+fn tell_slot<L: Tells>(
+    out: &mut impl fmt::Write,
     rack: &mut Rack<L>,
     station: usize,
 ) -> fmt::Result {
@@ -59,8 +59,8 @@ fn tell_slot<L: Tells, W: fmt::Write>(
 }
 
 // Makes the call of a line, and tells it.
-pub fn tell_call<L: Tells, W: fmt::Write>(
-    out: &mut W,
+pub fn tell_call<L: Tells>(
+    out: &mut impl fmt::Write,
     rack: &mut Rack<L>,
     line: usize,
     call: Call,

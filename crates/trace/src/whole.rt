@@ -3,7 +3,7 @@ use crate::access::Tells;
 use crate::picture::draw;
 use crate::telling::tell_call;
 use crate::words::{kind_words, tell_refusal};
-use crate::wrong::{LINE, tell_too_long, tell_wrong};
+use crate::wrong::{tell_too_long, tell_wrong};
 use answers::Refusal;
 use fast::Fast;
 use input::LONGEST;
@@ -18,7 +18,10 @@ use sheet::read::read_set_up;
 use std::alloc::Global;
 use std::fmt;
 
-fn tell_set_up<W: fmt::Write>(out: &mut W, set_up: SetUp) -> fmt::Result {
+// The bytes of a line of right form, with its line feed.
+const LINE: usize = 13;
+
+fn tell_set_up(out: &mut impl fmt::Write, set_up: SetUp) -> fmt::Result {
     let stations = set_up.stations;
     let kind = kind_words(set_up.kind);
     let start = set_up.start;
@@ -37,15 +40,15 @@ fn rack_on<L: Lock + Drop>(
 }
 
 // Makes and tells the calls of the text, up to its end or to a line of wrong form.
-fn tell_calls<L: Tells, W: fmt::Write>(
-    out: &mut W,
+fn tell_calls<L: Tells>(
+    out: &mut impl fmt::Write,
     heap: Global,
     rack: &mut Rack<L>,
     text: &[u8],
 ) -> anyhow::Result<()> {
     let read = read_calls(heap, text.get(LINE..).unwrap_or(&[]))?;
-    for (i, call) in read.calls.iter().enumerate() {
-        tell_call(out, rack, i + 2, *call)?;
+    for (line, call) in (2..).zip(&read.calls) {
+        tell_call(out, rack, line, *call)?;
     }
     if let Stop::Wrong { line, column } = read.stop {
         tell_wrong(out, text, line, column)?;
@@ -54,8 +57,8 @@ fn tell_calls<L: Tells, W: fmt::Write>(
 }
 
 // The sheet from what came of its set-up on. After a set-up that is refused nothing is read.
-fn tell_on<L: Tells + Drop, W: fmt::Write>(
-    out: &mut W,
+fn tell_on<L: Tells + Drop>(
+    out: &mut impl fmt::Write,
     heap: Global,
     set_up: SetUp,
     lock: Result<L, WrongStationCount>,
@@ -72,7 +75,7 @@ fn tell_on<L: Tells + Drop, W: fmt::Write>(
     Ok(())
 }
 
-pub fn tell_sheet<W: fmt::Write>(out: &mut W, heap: Global, text: &[u8]) -> anyhow::Result<()> {
+pub fn tell_sheet(out: &mut impl fmt::Write, heap: Global, text: &[u8]) -> anyhow::Result<()> {
     if text.len() > LONGEST {
         tell_too_long(out)?;
         return Ok(());

@@ -43,14 +43,14 @@ fn refusal_words(refusal: Refusal) -> &'static str {
     }
 }
 
-pub fn tell_refusal<W: fmt::Write>(out: &mut W, refusal: Refusal) -> fmt::Result {
+pub fn tell_refusal(out: &mut impl fmt::Write, refusal: Refusal) -> fmt::Result {
     let words = refusal_words(refusal);
     let number = refusal.number();
     writeln!(out, "refused, {words} ({number})")
 }
 
 // What a station is ordered to do.
-pub fn tell_job<W: fmt::Write>(out: &mut W, job: Job) -> fmt::Result {
+pub fn tell_job(out: &mut impl fmt::Write, job: Job) -> fmt::Result {
     match job {
         Job::Trim(permille) => write!(out, "trim by {permille} permille: "),
         Job::Undo => out.write_str("undo the newest trim: "),

@@ -3,13 +3,13 @@ use input::LONGEST;
 use output::SheetRefusal;
 use std::fmt;
 
-// The bytes of a line of right form, with its line feed.
-pub const LINE: usize = 13;
-
 // How much of a line is shown.
 const WIDTH: usize = 40;
 
-pub fn tell_too_long<W: fmt::Write>(out: &mut W) -> fmt::Result {
+// What stands for the rest.
+const DOTS: usize = 3;
+
+pub fn tell_too_long(out: &mut impl fmt::Write) -> fmt::Result {
     let number = SheetRefusal::TooLong.number();
     writeln!(
         out,
@@ -25,24 +25,13 @@ fn printable(byte: u8) -> char {
     }
 }
 
-// The line that begins at a place of the text, without its line feed. Of a long one dots stand for the rest.
-fn show_line<W: fmt::Write>(out: &mut W, text: &[u8], start: usize) -> fmt::Result {
-    for i in 0..WIDTH + 3 {
-        match text.get(start.saturating_add(i)) {
-            None | Some(b'\n') => break,
-            Some(byte) => {
-                let shown = if i < WIDTH { printable(*byte) } else { '.' };
-                out.write_char(shown)?
-            }
-        }
+// A line without its line feed. Of a long one dots stand for the rest.
+fn show_line(out: &mut impl fmt::Write, line: &[u8]) -> fmt::Result {
+    for byte in line.iter().take(WIDTH) {
+        out.write_char(printable(*byte))?;
     }
-    Ok(())
-}
-
-// Spaces before a column.
-fn indent<W: fmt::Write>(out: &mut W, column: usize) -> fmt::Result {
-    for _ in 1..column {
-        out.write_char(' ')?;
+    for _ in line.iter().skip(WIDTH).take(DOTS) {
+        out.write_char('.')?;
     }
     Ok(())
 }
@@ -62,9 +51,9 @@ fn expected(line: usize, letter: Option<u8>, column: usize) -> &'static str {
     }
 }
 
-// A line of wrong form, with a caret under its wrong column. All lines before it are of right form.
-pub fn tell_wrong<W: fmt::Write>(
-    out: &mut W,
+// A line of wrong form, with a caret under its wrong column.
+pub fn tell_wrong(
+    out: &mut impl fmt::Write,
     text: &[u8],
     line: usize,
     column: usize,
@@ -74,10 +63,11 @@ pub fn tell_wrong<W: fmt::Write>(
         out,
         "line {line}: refused, wrong form at column {column}; the sheet is read no further ({number})\n  "
     )?;
-    let start = line.saturating_sub(1).saturating_mul(LINE);
-    show_line(out, text, start)?;
-    out.write_str("\n  ")?;
-    indent(out, column)?;
-    let words = expected(line, text.get(start).copied(), column);
-    writeln!(out, "^\n  expected: {words}")
+    let shown = text
+        .split(|byte| *byte == b'\n')
+        .nth(line.saturating_sub(1))
+        .unwrap_or(&[]);
+    show_line(out, shown)?;
+    let words = expected(line, shown.first().copied(), column);
+    writeln!(out, "\n  {:>column$}\n  expected: {words}", '^')
 }
