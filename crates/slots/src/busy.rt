@@ -1,5 +1,5 @@
 // A rack that is kept at work.
-use answers::{Refusal, Served};
+use answers::{Answer, Refusal, Served};
 use feed::job::Job;
 use lock::Lock;
 use rack::calls::Rack;
@@ -35,24 +35,19 @@ impl<L: Lock + Drop> Busy<L> {
 impl<L: Lock> Busy<L> {
     // Gives the station the next job.
     pub fn order(&mut self, station: usize) -> u64 {
-        let answer = match self.rack.order(station, self.next) {
-            Ok(()) => 0,
-            Err(refusal) => u64::from(refusal.number()),
-        };
+        let answer = self.rack.order(station, self.next);
         self.next = job_after(self.next);
-        answer
+        u64::from(answer.number())
     }
 
     // One slot, and a new order for a station that comes to rest.
     pub fn serve(&mut self, station: usize) -> u64 {
-        match self.rack.slot(station) {
-            Ok(Served::NowResting) => {
-                let answer = u64::from(Served::NowResting.number());
-                answer.wrapping_add(self.order(station))
-            }
-            Ok(served) => u64::from(served.number()),
-            Err(refusal) => u64::from(refusal.number()),
-        }
+        let answer = self.rack.slot(station);
+        let ordered = match answer {
+            Ok(Served::NowResting) => self.order(station),
+            _ => 0,
+        };
+        ordered.wrapping_add(u64::from(answer.number()))
     }
 
     // What a look at the station and a look at the board show, summed.

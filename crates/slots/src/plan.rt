@@ -113,7 +113,7 @@ impl Plan {
         if let Work::Turns = self.mode.work {
             return Ok(turns(&mut lock, crew));
         }
-        let mut rack = Busy::set_up(lock).map_err(|_| anyhow!("the set-up is refused"))?;
+        let mut rack = Busy::set_up(lock)?;
         match self.mode.work {
             Work::Calls => Ok(calls(&mut rack, crew)),
             _ => Ok(slots(&mut rack, crew)),
