@@ -1,2 +1,1 @@
-pub mod Assured
-pub mod Taken
+pub mod Kept

@@ -1,2 +1,3 @@
+pub mod Names
 pub mod Runs
 pub mod Promise

@@ -1,0 +1,26 @@
+-- The lock of each kind is fresh where it is made, and its lone cost is exact.
+use Rattle.std.proofs.Common.{◌+◌, refl, rules}
+use Rattle.fast.specs.Meaning.{fast_meaning}
+use Rattle.fast.specs.Turns.{fresh as fresh_fast}
+use Rattle.fast.proofs.Climb as fast_climb
+use Rattle.one_bit.specs.Meaning.{one_bit_meaning}
+use Rattle.one_bit.specs.Turns.{fresh as fresh_one_bit}
+use Rattle.one_bit.proofs.Climb as one_bit_climb
+use Rattle.kinds.proofs.Kept.{kept}
+use Rattle.kinds.proofs.set_up.SetUp.run.Goals as goal
+
+pub returns-in-Fast-clause-keeps : goal.returns-in-Fast-clause-keeps
+returns-in-Fast-clause-keeps c =
+    let x = c.args.self in
+    let ran = c.run_if_made in
+    let keeps = kept fast_meaning (fresh_fast x.stations) x.stations x.start c.args.calls.now (λ _. 5) (λ _. 2) fast_climb.exactly 7 refl _ _ c.new.result ran.result
+    c.new.ensures.value c.new.ensures.fresh ran.ensures.does ran.ensures.keeps in
+    search rules
+
+pub returns-in-OneBit-clause-keeps : goal.returns-in-OneBit-clause-keeps
+returns-in-OneBit-clause-keeps c =
+    let x = c.args.self in
+    let ran = c.run_if_made-in-OneBit in
+    let keeps = kept one_bit_meaning (fresh_one_bit x.stations) x.stations x.start c.args.calls.now (λ k. k) (λ _. 1) one_bit_climb.exactly (x.stations + 1) refl _ _
+    c.new-in-OneBit.result ran.result c.new-in-OneBit.ensures.value c.new-in-OneBit.ensures.fresh ran.ensures.does ran.ensures.keeps in
+    search rules
