@@ -44,12 +44,12 @@ impl SetUp {
     {
         match self.kind {
             LockKind::Fast => {
-                run_if_made(heap, Fast::new(self.stations), self.start, calls).map(KindRan::OnFast)
+                let lock = Fast::new(self.stations);
+                run_if_made(heap, lock, self.start, calls).map(KindRan::OnFast)
             }
             LockKind::OneBit => {
-                run_if_made(heap, OneBit::new(self.stations), self.start, calls).map(
-                    KindRan::OnOneBit,
-                )
+                let lock = OneBit::new(self.stations);
+                run_if_made(heap, lock, self.start, calls).map(KindRan::OnOneBit)
             }
         }
     }

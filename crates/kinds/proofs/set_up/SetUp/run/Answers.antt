@@ -13,8 +13,8 @@ pub returns-in-Fast-clause-keeps : goal.returns-in-Fast-clause-keeps
 returns-in-Fast-clause-keeps c =
     let x = c.args.self in
     let ran = c.run_if_made in
-    let keeps = kept fast_meaning (fresh_fast x.stations) x.stations x.start c.args.calls.now (λ _. 5) (λ _. 2) fast_climb.exactly 7 refl _ _ c.new.result ran.result
-    c.new.ensures.value c.new.ensures.fresh ran.ensures.does ran.ensures.keeps in
+    let keeps = kept fast_meaning (fresh_fast x.stations) x.stations x.start c.args.calls.now (λ _. 5) (λ _. 2) fast_climb.exactly 7 refl _ _ c.new-lock.result ran.result
+    c.new-lock.ensures.value c.new-lock.ensures.fresh ran.ensures.does ran.ensures.keeps in
     search rules
 
 pub returns-in-OneBit-clause-keeps : goal.returns-in-OneBit-clause-keeps
@@ -22,5 +22,5 @@ returns-in-OneBit-clause-keeps c =
     let x = c.args.self in
     let ran = c.run_if_made-in-OneBit in
     let keeps = kept one_bit_meaning (fresh_one_bit x.stations) x.stations x.start c.args.calls.now (λ k. k) (λ _. 1) one_bit_climb.exactly (x.stations + 1) refl _ _
-    c.new-in-OneBit.result ran.result c.new-in-OneBit.ensures.value c.new-in-OneBit.ensures.fresh ran.ensures.does ran.ensures.keeps in
+    c.new-lock-in-OneBit.result ran.result c.new-lock-in-OneBit.ensures.value c.new-lock-in-OneBit.ensures.fresh ran.ensures.does ran.ensures.keeps in
     search rules
