@@ -1,6 +1,7 @@
 -- The 12 bytes after a letter: the two fields and the line feed.
 use Rattle.std.proofs.Common.{◌≡◌, ℕ, suc, ◌+◌, ◌-◌, ◌%◌, ◌^◌, ◌<◌, List, [], ◌∷◌, ◌++◌, length, get_or, take, drop, replicate, Ok, Err, decimal, Result, sym, refl, ap, ◌∙◌, subst, arith, lit<, lit≤, length-append}
 use Rattle.std.proofs.lemmas.Fmt.{decimal_by_steps}
+use Rattle.std.proofs.lemmas.List.Elements.{All-nil, All-cons, All-append, All-replicate, All-drop}
 use Rattle.columns.specs.declared.field.Form.{Form}
 use Rattle.columns.specs.declared.field.Form.TheVariants.{Natural, Signed}
 use Rattle.columns.specs.declared.field.Content.{Content}
@@ -11,20 +12,27 @@ use Rattle.columns.specs.Stops.{Stops}
 use Rattle.columns.proofs.Justified.{justified-length}
 use Rattle.columns.proofs.Columns.{stops_as}
 use Rattle.columns.proofs.Words.{Joined, stops_first, stops_second}
-use Rattle.columns.proofs.Missing.{columns, same-columns, columns_are, Nonzero, nonzero_join, nonzero_spaces, nonzero_drop, stops_filled, whole_filled}
+use Rattle.columns.proofs.Missing.{columns, same-columns, columns_are, Positive, Nonzero, stops_filled, whole_filled}
 
 -- no byte of them is 0
+joined : (u v : List ℕ) → Nonzero u → Nonzero v → Nonzero (u ++ v)
+joined = All-append Positive
+
+one_byte : (b : ℕ) → Positive b → Nonzero (b ∷ [])
+one_byte b h = All-cons Positive b [] h (All-nil Positive)
+
 nonzero_decimal : (n : ℕ) → n < 2 ^ 64 → Nonzero (decimal n)
-nonzero_decimal = decimal_by_steps (λ n ds. Nonzero ds) (λ n h. (omega arith, tt)) (λ n ds h p. nonzero_join ds ((48 + n % 10) ∷ []) p (omega arith, tt))
+nonzero_decimal = decimal_by_steps (λ n ds. Nonzero ds) (λ n h. one_byte (48 + n) (omega arith)) (λ n ds h p. joined ds ((48 + n % 10) ∷ []) p (one_byte (48 + n % 10) (omega arith)))
 
 nonzero_shown : (f : Form) (v : Content) → Fits f 8 v → Nonzero (shown v)
-nonzero_shown f Blank g = tt
-nonzero_shown f Minus g = (lit≤ tt, tt)
+nonzero_shown f Blank g = absurd g
+nonzero_shown f Minus g = absurd g
 nonzero_shown f (Number n) g = nonzero_decimal n (omega arith)
-nonzero_shown f (Negative n) g = (lit≤ tt, nonzero_decimal n (omega arith))
+nonzero_shown f (Negative n) g = All-cons Positive 45 (decimal n) (lit≤ tt) (nonzero_decimal n (omega arith))
 
 nonzero_justified : (w : ℕ) (ds : List ℕ) → Nonzero ds → Nonzero (justified w ds)
-nonzero_justified w ds p = nonzero_join (replicate (w - length ds) 32) (drop (length ds - w) ds) (nonzero_spaces (w - length ds)) (nonzero_drop (length ds - w) ds p)
+nonzero_justified w ds p =
+    joined (replicate (w - length ds) 32) (drop (length ds - w) ds) (All-replicate Positive (w - length ds) 32 (lit≤ tt)) (All-drop Positive (length ds - w) ds p)
 
 -- the two fields and the line feed
 abbrev End : List ℕ → Type 0
@@ -66,8 +74,8 @@ sized_fields f l (s, (v, (h, (g, e)))) = rw e (fields_length s (shown v))
 
 nonzero_fields : (f : Form) (l : List ℕ) → FieldsText f l → Nonzero l
 nonzero_fields f l (s, (v, (h, (g, e)))) =
-    rw e (nonzero_join (justified 3 (decimal s)) (justified 8 (shown v) ++ (10 ∷ [])) (nonzero_justified 3 (decimal s) (nonzero_decimal s (omega arith)))
-    (nonzero_join (justified 8 (shown v)) (10 ∷ []) (nonzero_justified 8 (shown v) (nonzero_shown f v g)) (lit≤ tt, tt)))
+    rw e (joined (justified 3 (decimal s)) (justified 8 (shown v) ++ (10 ∷ [])) (nonzero_justified 3 (decimal s) (nonzero_decimal s (omega arith)))
+    (joined (justified 8 (shown v)) (10 ∷ []) (nonzero_justified 8 (shown v) (nonzero_shown f v g)) (one_byte 10 (lit≤ tt))))
 
 no_feed : (b : ℕ) → (b ≡ 10 → ⊥) → Stops End (b ∷ []) 0
 no_feed b ne = record { goes = (10 ∷ [], (refl, refl)); ends = λ l a e. ne (let h : take 1 (10 ∷ []) ≡ b ∷ [] = rw a at e in let q : b ≡ 10 = cc in q) }

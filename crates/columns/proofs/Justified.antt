@@ -1,7 +1,7 @@
 -- What is right-justified in w columns has w bytes, and one byte more at its end gives w + 1.
 use Rattle.std.proofs.Common.{◌≡◌, ℕ, zero, suc, ◌+◌, ◌-◌, ◌*◌, ◌^◌, ◌≤◌, List, [], ◌∷◌, ◌++◌, length, drop, replicate, decimal, ap, ◌∙◌, append_assoc, append-nil, pow-suc, add-one, arith, lit<, length-append, length-drop}
-use native.Mathlib.Nat.{pow-le-pow_right}
-use lib.ListN.{length-replicate}
+use Rattle.std.proofs.Math.Nat.{pow-le-pow_right}
+use Rattle.std.proofs.lemmas.List.{length-replicate}
 use Rattle.std.proofs.lemmas.List.{replicate_more, drop-append-le}
 use Rattle.std.proofs.lemmas.Fmt.{length-decimal-le}
 use Rattle.columns.specs.declared.field.Form.{Form}

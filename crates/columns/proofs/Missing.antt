@@ -1,5 +1,7 @@
 -- Missing bytes count as 0, which no line has: a text that ends too early stops where its zeros begin.
-use Rattle.std.proofs.Common.{◌≡◌, ℕ, zero, suc, ◌+◌, ◌<◌, ◌≤◌, List, [], ◌∷◌, ◌++◌, length, get_or, take, drop, replicate, sym, refl, ap, ◌∙◌, arith, lit≤, take_all, drop-cons}
+use Rattle.std.proofs.Common.{◌≡◌, ℕ, zero, suc, ◌+◌, ◌<◌, ◌≤◌, List, [], ◌∷◌, length, get_or, take, drop, sym, refl, ap, ◌∙◌, arith, take_all, drop-cons}
+use Rattle.std.specs.List.{All}
+use Rattle.std.proofs.lemmas.List.Elements.{All-head, All-tail}
 use Rattle.columns.specs.Stops.{Stops}
 
 -- w bytes of a text from the index i on
@@ -19,19 +21,22 @@ pub columns_are : (w i : ℕ) (t : List ℕ) → i + w ≤ length t → take w (
 columns_are zero i t h = refl
 columns_are (suc w) i t h = rw (drop-cons t i 0 (omega arith)) (ap (λ u. get_or t i 0 ∷ u) (columns_are w (suc i) t (omega arith)))
 
+abbrev pub Positive : ℕ → Type 0
+Positive b = 1 ≤ b
+
+-- no byte is 0
 abbrev pub Nonzero : List ℕ → Type 0
-Nonzero [] = Unit {0}
-Nonzero (b ∷ l) = (1 ≤ b) × Nonzero l
+Nonzero = All Positive
 
 unfilled : (k w : ℕ) (l text : List ℕ) → length l ≡ w → Nonzero l → k ≤ w → take k l ≡ take k (columns w 0 text) → take k l ≡ take k text
 unfilled zero w l text n z h e = refl
 unfilled (suc k) w [] text n z h e = absurd (omega arith)
 unfilled (suc k) zero (x ∷ l) text n z h e = absurd (omega arith)
-unfilled (suc k) (suc w) (x ∷ l) [] n z h e = let p : x ≡ 0 = cc in absurd (omega arith)
+unfilled (suc k) (suc w) (x ∷ l) [] n z h e = let p : x ≡ 0 = cc in let some : 1 ≤ x = All-head Positive x l z in absurd (omega arith)
 unfilled (suc k) (suc w) (x ∷ l) (y ∷ text) n z h e =
     let p : x ≡ y = cc in
     let q : take k l ≡ take k (columns w 1 (y ∷ text)) = cc in
-    let rest = unfilled k w l text (omega arith) z.1 (omega arith) (rw (shifted w 0 y text) at q) in
+    let rest = unfilled k w l text (omega arith) (All-tail Positive x l z) (omega arith) (rw (shifted w 0 y text) at q) in
     cc
 
 filled : (k w : ℕ) (l text : List ℕ) → length l ≡ w → k ≤ w → take k l ≡ take k text → take k l ≡ take k (columns w 0 text)
@@ -58,17 +63,3 @@ module _ (L : List ℕ → Type 0) (w : ℕ) (sized : (l : List ℕ) → L l →
       let l = columns w 0 text in
       let n = sized l a in
       sym (unfilled w w l text n (some l a) (omega arith) refl) ∙ take_all w l (omega arith)
-
--- lists with no 0
-pub nonzero_join : (u v : List ℕ) → Nonzero u → Nonzero v → Nonzero (u ++ v)
-nonzero_join [] v p q = q
-nonzero_join (b ∷ u) v p q = (p.0, nonzero_join u v p.1 q)
-
-pub nonzero_spaces : (i : ℕ) → Nonzero (replicate i 32)
-nonzero_spaces zero = tt
-nonzero_spaces (suc i) = (lit≤ tt, nonzero_spaces i)
-
-pub nonzero_drop : (k : ℕ) (l : List ℕ) → Nonzero l → Nonzero (drop k l)
-nonzero_drop zero l p = p
-nonzero_drop (suc k) [] p = tt
-nonzero_drop (suc k) (b ∷ l) p = nonzero_drop k l p.1

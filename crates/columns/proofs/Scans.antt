@@ -1,6 +1,6 @@
 -- The loop over the columns of a field goes as `scan` does.
 use Rattle.std.proofs.Common.{◌≡◌, ℕ, suc, ◌+◌, ◌-◌, ◌*◌, ◌^◌, ◌<◌, ◌≤◌, Bool, eqb, List, [], ◌∷◌, length, get_or, drop, Some, None, Ok, Err, Option, Result, pow-suc, add-one, arith, lit<, length-drop, drop_of_length-le, drop-cons}
-use native.Mathlib.Nat.{pow-le-pow_right}
+use Rattle.std.proofs.Math.Nat.{pow-le-pow_right}
 use Rattle.std.proofs.lemmas.Bool.Decides.{nat_tests}
 use Rattle.columns.specs.declared.field.Form.{Form}
 use Rattle.columns.specs.declared.field.Content.{Content}

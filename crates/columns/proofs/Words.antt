@@ -1,6 +1,7 @@
 -- Two words, one after the other.
 use Rattle.std.proofs.Common.{◌≡◌, ℕ, suc, ◌+◌, ◌<◌, ◌≤◌, List, ◌++◌, length, take, drop, sym, refl, ap, ◌∙◌, add-suc, arith, take_at, drop_at}
-use lib.Seq.{take-append-le, take-append-add}
+use Rattle.std.proofs.lemmas.List.{take-append-le}
+use Rattle.std.proofs.Math.Seq.{take-append-add}
 use Rattle.columns.specs.Stops.{Stops}
 
 -- where the first words are as long as each other, equal texts have equal parts

@@ -1,8 +1,9 @@
 -- A text is read in one way: a rest that begins with no legal line ends the reading, and a line's wrong column is one number.
 use Rattle.std.proofs.Common.{◌≡◌, ℕ, ◌+◌, ◌<◌, List, [], ◌∷◌, ◌++◌, length, Some, None, Option, sym, refl, ap, ◌∙◌, subst, inl, inr, append_assoc, arith, length-append}
-use lib.Seq.{take-append-le}
-use Rattle.std.specs.List.{flat_map, AllByRecursion}
+use Rattle.std.proofs.lemmas.List.{take-append-le}
+use Rattle.std.specs.List.{flat_map, All}
 use Rattle.std.proofs.lemmas.Bool.{cases_lt}
+use Rattle.std.proofs.lemmas.List.Elements.{All-head, All-tail}
 use Rattle.sheet.specs.declared.calls.WrongForm.{WrongForm}
 use Rattle.sheet.specs.declared.line.Call.{Call}
 use Rattle.sheet.specs.Line.{call_text, FitsCall, LegalLater, Wrong}
@@ -42,14 +43,14 @@ stuck at rest (Some wrong) h x more f e =
 abbrev after : List Call → List ℕ → List ℕ
 after xs rest = flat_map call_text xs ++ rest
 
-same-calls : (xs ys : List Call) (r q : List ℕ) → AllByRecursion FitsCall xs → AllByRecursion FitsCall ys → Stuck r → Stuck q → after xs r ≡ after ys q → (xs ≡ ys) × (r ≡ q)
+same-calls : (xs ys : List Call) (r q : List ℕ) → All FitsCall xs → All FitsCall ys → Stuck r → Stuck q → after xs r ≡ after ys q → (xs ≡ ys) × (r ≡ q)
 same-calls [] [] r q f g s t e = (refl, e)
-same-calls [] (y ∷ ys) r q f g s t e = absurd (s y (after ys q) g.0 (e ∙ append_assoc (call_text y) (flat_map call_text ys) q))
-same-calls (x ∷ xs) [] r q f g s t e = absurd (t x (after xs r) f.0 (sym e ∙ append_assoc (call_text x) (flat_map call_text xs) r))
+same-calls [] (y ∷ ys) r q f g s t e = absurd (s y (after ys q) (All-head FitsCall y ys g) (e ∙ append_assoc (call_text y) (flat_map call_text ys) q))
+same-calls (x ∷ xs) [] r q f g s t e = absurd (t x (after xs r) (All-head FitsCall x xs f) (sym e ∙ append_assoc (call_text x) (flat_map call_text xs) r))
 same-calls (x ∷ xs) (y ∷ ys) r q f g s t e =
     let h : call_text x ++ after xs r ≡ call_text y ++ after ys q = sym (append_assoc (call_text x) (flat_map call_text xs) r) ∙ e ∙ append_assoc (call_text y) (flat_map call_text ys) q in
-    let a : x ≡ y = one Call call_text FitsCall calls x y f.0 g.0 (same_first 13 (call_text x) (call_text y) (after xs r) (after ys q) (call_length x) (call_length y) h) in
-    let b = same-calls xs ys r q f.1 g.1 s t (same_second 13 (call_text x) (call_text y) (after xs r) (after ys q) (call_length x) (call_length y) h) in
+    let a : x ≡ y = one Call call_text FitsCall calls x y (All-head FitsCall x xs f) (All-head FitsCall y ys g) (same_first 13 (call_text x) (call_text y) (after xs r) (after ys q) (call_length x) (call_length y) h) in
+    let b = same-calls xs ys r q (All-tail FitsCall x xs f) (All-tail FitsCall y ys g) s t (same_second 13 (call_text x) (call_text y) (after xs r) (after ys q) (call_length x) (call_length y) h) in
     let c = b.0 in
     (cc, b.1)
 

@@ -1,16 +1,16 @@
 -- The loop that reads call after call: the text is the texts of the calls so far, and a rest.
 use Rattle.std.proofs.Common.{◌≡◌, ℕ, ◌+◌, ◌<◌, ◌≤◌, min, List, [], ◌∷◌, ◌++◌, length, take, Some, None, Ok, Err, sym, ap, ◌∙◌, ⊎_elim, append_assoc, arith, length-append}
-use Rattle.std.specs.List.{flat_map, AllByRecursion}
+use Rattle.std.specs.List.{flat_map, All}
 use Rattle.std.proofs.lemmas.Bool.{cases_lt}
 use Rattle.std.proofs.lemmas.List.{nil_from_length, take_all, take-append-le, flat_map_more, append-nil}
-use Rattle.std.proofs.ByRecursion.{All-push}
+use Rattle.std.proofs.lemmas.List.Elements.{All-push}
 use Rattle.columns.specs.declared.wrong.WrongColumn.{WrongColumn}
 use Rattle.sheet.specs.declared.line.Call.{Call}
 use Rattle.sheet.specs.Line.{call_text, FitsCall, CallRead, LegalLater, Wrong}
 use Rattle.sheet.specs.Sheet.{Later}
 
 pub record Reading (text : List ℕ) (calls : List Call) (rest : List ℕ) : Type 0 where
-  pub fits : AllByRecursion FitsCall calls
+  pub fits : All FitsCall calls
   pub split : text ≡ flat_map call_text calls ++ rest
 
 pub reading_end : (text : List ℕ) (calls : List Call) (rest : List ℕ) → Reading text calls rest → length rest ≡ 0 → Later 2 text calls None

@@ -1,6 +1,6 @@
 -- The calls of a sheet, line after line, up to the end of its text or to a line of wrong form.
 use Rattle.std.specs.Prelude.{◌≡◌, ℕ, ◌+◌, ◌≤◌, List, [], ◌++◌, length, Some, None, Option}
-use Rattle.std.specs.List.{flat_map, AllByRecursion}
+use Rattle.std.specs.List.{flat_map, All}
 use Rattle.sheet.specs.declared.calls.WrongForm.{WrongForm}
 use Rattle.sheet.specs.declared.line.Call.{Call}
 use Rattle.sheet.specs.Line.{call_text, FitsCall, LegalLater, Wrong}
@@ -13,7 +13,7 @@ Ends at rest (Some wrong) = (wrong.line ≡ at) × ((1 ≤ length rest) × Wrong
 -- the text from the line `first` on is the texts of the calls, one after the other, and a rest at which the reading ends
 pub record Later (first : ℕ) (text : List ℕ) (calls : List Call) (wrong : Option WrongForm) : Type 0 where
   pub rest : List ℕ
-  pub fits : AllByRecursion FitsCall calls
+  pub fits : All FitsCall calls
   pub split : text ≡ flat_map call_text calls ++ rest
   pub ends : Ends (first + length calls) rest wrong
 
