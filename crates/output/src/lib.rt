@@ -1,13 +1,13 @@
 // The lines of the output: those of the set-up and of each call, in the columns of the sheet, and those of the end.
 #![tactic(auto)]
 
-ghost use Rattle.std.specs.Prelude.{◌≡◌, ◌++◌, OnOk};
+ghost use Rattle.std.specs.Prelude.{◌≡◌, ◌++◌, OnOk, decimal};
 ghost use Rattle.std.specs.List.{flat_map};
-ghost use Rattle.answers.specs.Numbers.{order_number, slot_number};
+ghost use Rattle.columns.specs.Field.{line_text};
 ghost use Rattle.sheet.specs.Line.{kind_letter, job_letter};
 ghost use Rattle.output.specs.Output.{set_up_line, event_line, sheet_refusal_number, sheet_refusal_line, board_lines, end_lines};
 
-use answers::{Refusal, Served, View};
+use answers::{Answer, View};
 use columns::field::Content;
 use columns::write::{write_line, write_signed};
 use feed::job::Job;
@@ -66,30 +66,18 @@ fn letter_of_job(job: Job) -> u8
     }
 }
 
-fn number_of_order(answer: Result<(), Refusal>) -> u8
-    ensures { result ≡ order_number answer }
+// The answer to a line of the sheet: its letter, its station and the answer's number.
+fn answer_line(letter: u8, station: usize, number: u8) -> [u8; 13]
+    ensures { result ≡ line_text letter station (decimal number) }
 {
-    match answer {
-        Ok(_) => 0,
-        Err(refusal) => refusal.number(),
-    }
-}
-
-fn number_of_slot(answer: Result<Served, Refusal>) -> u8
-    ensures { result ≡ slot_number answer }
-{
-    match answer {
-        Ok(served) => served.number(),
-        Err(refusal) => refusal.number(),
-    }
+    write_line(letter, station, Content::Number(u64::from(number)))
 }
 
 // The answer to a set-up: its letter, its number of stations and the answer's number.
 pub fn line_of_set_up(set_up: SetUp, number: u8) -> [u8; 13]
     ensures { result ≡ set_up_line set_up number }
 {
-    let letter = letter_of_kind(set_up.kind);
-    write_line(letter, set_up.stations, Content::Number(number as u64))
+    answer_line(letter_of_kind(set_up.kind), set_up.stations, number)
 }
 
 // Adds the answer to an order or to a slot: its letter, its station and the answer's number.
@@ -98,14 +86,12 @@ fn add_event(out: &mut Vec<u8>, event: Event) -> Result<(), AllocError>
 {
     match event {
         Event::Ordered(station, job, answer) => {
-            let number = Content::Number(number_of_order(answer) as u64);
-            out.extend_from_slice(&write_line(letter_of_job(job), station, number))
+            out.extend_from_slice(&answer_line(letter_of_job(job), station, answer.number()))
         }
         Event::Slotted(station, answer) => {
-            let number = Content::Number(number_of_slot(answer) as u64);
-            out.extend_from_slice(&write_line(b'S', station, number))
+            out.extend_from_slice(&answer_line(b'S', station, answer.number()))
         }
-        Event::Looked(_, _) | Event::Shown(_) => Ok(()),
+        Event::Looked(..) | Event::Shown(_) => Ok(()),
     }
 }
 
