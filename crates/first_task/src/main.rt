@@ -1,7 +1,7 @@
 // One task from beginning to end, told in words: a trim, slot by slot, that another station takes back, and a signature.
 #![tactic(auto)]
 
-use answers::{Refusal, Served, View};
+use answers::{Served, View};
 use feed::job::{Job, Verdict};
 use one_bit::OneBit;
 use rack::calls::Rack;
@@ -38,10 +38,6 @@ impl fmt::Display for Words {
     }
 }
 
-fn rack() -> Result<Rack<OneBit>, Refusal> {
-    Rack::set_up(OneBit::new(STATIONS)?, START)
-}
-
 // Orders the job and serves the station until it rests.
 fn carry_out(
     rt: &impl Print,
@@ -72,7 +68,7 @@ fn show(rt: &impl Print, rack: &Rack<OneBit>) -> anyhow::Result<()> {
 
 fn run(rt: &impl Print) -> anyhow::Result<()> {
     println!(rt; "A rack of {STATIONS} stations with a one-bit lock starts at {START} kg/h.")?;
-    let mut rack = rack()?;
+    let mut rack = Rack::set_up(OneBit::new(STATIONS)?, START)?;
     println!(rt; "Station {TRIMMER} trims by 33 permille:")?;
     carry_out(rt, &mut rack, TRIMMER, Job::Trim(33))?;
     show(rt, &rack)?;

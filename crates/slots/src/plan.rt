@@ -1,7 +1,6 @@
 // What the program is asked to do.
 use crate::busy::Busy;
 use crate::work::{Crew, calls, slots, turns};
-use anyhow::anyhow;
 use fast::Fast;
 use lock::Lock;
 use one_bit::OneBit;
@@ -122,12 +121,8 @@ impl Plan {
 
     pub fn sum(self) -> anyhow::Result<u64> {
         match self.kind {
-            Kind::Fast => self.sum_over(Fast::new(self.n).map_err(|_| anyhow!(
-                "a rack has 1 to 16 stations"
-            ))?),
-            Kind::OneBit => self.sum_over(OneBit::new(self.n).map_err(|_| anyhow!(
-                "a rack has 1 to 16 stations"
-            ))?),
+            Kind::Fast => self.sum_over(Fast::new(self.n)?),
+            Kind::OneBit => self.sum_over(OneBit::new(self.n)?),
         }
     }
 }
