@@ -7,9 +7,9 @@ use Rattle.rack.specs.declared.calls.Rack.{Rack}
 use Rattle.runs.specs.Promise.{Ready, Promise, Lone, ExactCost, Throughout}
 use Rattle.runs.specs.declared.events.Call.{Call}
 use Rattle.runs.specs.declared.events.Event.{Event}
-use Rattle.one_bit.specs.Turns.{fresh as fresh_one_bit}
+use Rattle.one_bit.specs.Plan.{fresh as fresh_one_bit}
 use Rattle.one_bit.specs.Meaning.{one_bit_meaning}
-use Rattle.fast.specs.Turns.{fresh as fresh_fast}
+use Rattle.fast.specs.Plan.{fresh as fresh_fast}
 use Rattle.fast.specs.Meaning.{fast_meaning}
 use Rattle.kinds.specs.declared.LockKind.{LockKind}
 use Rattle.kinds.specs.declared.LockKind.TheVariants.{Fast, OneBit}

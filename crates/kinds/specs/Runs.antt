@@ -13,9 +13,9 @@ use Rattle.runs.specs.declared.events.Event.{Event}
 use Rattle.runs.specs.declared.run.Fault.{Fault}
 use Rattle.runs.specs.declared.run.Fault.TheVariants.{Refused, Memory}
 use Rattle.runs.specs.declared.run.Ran.{Ran}
-use Rattle.one_bit.specs.Turns.{fresh as fresh_one_bit}
+use Rattle.one_bit.specs.Plan.{fresh as fresh_one_bit}
 use Rattle.one_bit.specs.Meaning.{one_bit_meaning}
-use Rattle.fast.specs.Turns.{fresh as fresh_fast}
+use Rattle.fast.specs.Plan.{fresh as fresh_fast}
 use Rattle.fast.specs.Meaning.{fast_meaning}
 use Rattle.kinds.specs.declared.LockKind.{LockKind}
 use Rattle.kinds.specs.declared.LockKind.TheVariants.{Fast, OneBit}

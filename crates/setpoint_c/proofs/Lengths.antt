@@ -14,9 +14,9 @@ use Rattle.runs.specs.declared.events.Event.TheVariants.{Ordered, Slotted, Looke
 use Rattle.kinds.specs.Runs.{kind_events, kind_board}
 use Rattle.kinds.specs.declared.LockKind.{LockKind}
 use Rattle.kinds.specs.declared.LockKind.TheVariants.{Fast, OneBit}
-use Rattle.one_bit.specs.Turns.{fresh as fresh_one_bit}
+use Rattle.one_bit.specs.Plan.{fresh as fresh_one_bit}
 use Rattle.one_bit.specs.Meaning.{one_bit_meaning}
-use Rattle.fast.specs.Turns.{fresh as fresh_fast}
+use Rattle.fast.specs.Plan.{fresh as fresh_fast}
 use Rattle.fast.specs.Meaning.{fast_meaning}
 use Rattle.rack.specs.Calls.{fresh_rack}
 use Rattle.sheet.specs.declared.calls.Stop.{Stop}

@@ -16,11 +16,11 @@ use Rattle.runs.specs.declared.events.Call.TheVariants.{Order, Slot}
 use Rattle.runs.specs.declared.events.Event.{Event}
 use Rattle.runs.specs.declared.events.Event.TheVariants.{Ordered, Slotted, Looked, Shown}
 use Rattle.one_bit.specs.Meaning.{one_bit_meaning}
-use Rattle.one_bit.specs.Turns.{fresh as fresh_one_bit}
+use Rattle.one_bit.specs.Plan.{fresh as fresh_one_bit}
 use Rattle.fast.specs.Meaning.{fast_meaning}
 use Rattle.fast.specs.Places.{access_at}
-use Rattle.fast.specs.Registers.{place_of}
-use Rattle.fast.specs.Turns.{fresh as fresh_fast}
+use Rattle.fast.specs.Plan.{place_of}
+use Rattle.fast.specs.Plan.{fresh as fresh_fast}
 use Rattle.fast.specs.declared.register.Register.TheVariants.{Flag}
 use Rattle.kinds.specs.Runs.{kind_events}
 use Rattle.kinds.specs.declared.LockKind.TheVariants.{Fast}

@@ -1,10 +1,10 @@
 -- The lock of each kind is fresh where it is made, and its lone cost is exact.
-use Rattle.std.proofs.Common.{◌+◌, refl, rules}
+use Rattle.std.proofs.Common.{◌≡◌, ◌+◌, cond, ◌||◌, ◌==◌, nat_lt, Ok, Err, refl, arith, rules}
 use Rattle.fast.specs.Meaning.{fast_meaning}
-use Rattle.fast.specs.Turns.{fresh as fresh_fast}
+use Rattle.fast.specs.Plan.{fresh as fresh_fast}
 use Rattle.fast.proofs.Climb as fast_climb
 use Rattle.one_bit.specs.Meaning.{one_bit_meaning}
-use Rattle.one_bit.specs.Turns.{fresh as fresh_one_bit}
+use Rattle.one_bit.specs.Plan.{fresh as fresh_one_bit}
 use Rattle.one_bit.proofs.Climb as one_bit_climb
 use Rattle.kinds.proofs.Kept.{kept}
 use Rattle.kinds.proofs.set_up.SetUp.run.Goals as goal
@@ -24,3 +24,28 @@ returns-in-OneBit-clause-keeps c =
     let keeps = kept one_bit_meaning (fresh_one_bit x.stations) x.stations x.start c.args.calls.now (λ k. k) (λ _. 1) one_bit_climb.exactly (x.stations + 1) refl _ _
     c.new-lock-in-OneBit.result ran.result c.new-lock-in-OneBit.ensures.value c.new-lock-in-OneBit.ensures.fresh ran.ensures.does ran.ensures.keeps in
     search rules
+
+-- what `new` made, written out
+pub returns-in-Fast-clause-throughout : goal.returns-in-Fast-clause-throughout
+returns-in-Fast-clause-throughout c =
+    let n = c.args.self.stations in
+    let made : c.new-lock.result ≡ cond (n == 0 || nat_lt 16 n) (Err (record {})) (Ok (fresh_fast n)) = c.new-lock.ensures.value in
+    grind (arith, made)
+
+pub returns-in-Fast-clause-does : goal.returns-in-Fast-clause-does
+returns-in-Fast-clause-does c =
+    let n = c.args.self.stations in
+    let made : c.new-lock.result ≡ cond (n == 0 || nat_lt 16 n) (Err (record {})) (Ok (fresh_fast n)) = c.new-lock.ensures.value in
+    grind (arith, made)
+
+pub returns-in-OneBit-clause-throughout : goal.returns-in-OneBit-clause-throughout
+returns-in-OneBit-clause-throughout c =
+    let n = c.args.self.stations in
+    let made : c.new-lock-in-OneBit.result ≡ cond (n == 0 || nat_lt 16 n) (Err (record {})) (Ok (fresh_one_bit n)) = c.new-lock-in-OneBit.ensures.value in
+    grind (arith, made)
+
+pub returns-in-OneBit-clause-does : goal.returns-in-OneBit-clause-does
+returns-in-OneBit-clause-does c =
+    let n = c.args.self.stations in
+    let made : c.new-lock-in-OneBit.result ≡ cond (n == 0 || nat_lt 16 n) (Err (record {})) (Ok (fresh_one_bit n)) = c.new-lock-in-OneBit.ensures.value in
+    grind (arith, made)
