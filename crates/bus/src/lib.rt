@@ -14,6 +14,7 @@ pub enum Access<R, V> {
 // Registers that are reached by their names, over the bus.
 pub trait Registers {
     type Name: Copy;
+
     type Value: Copy;
 
     // what stands in a register
