@@ -1,7 +1,7 @@
 // A lock for one station, the smallest that is lawful: its first turn takes it inside, and its first turn after its end to rest.
 #![tactic(auto)]
 
-ghost use Rattle.std.specs.Prelude.{◌≡◌};
+ghost use Rattle.std.specs.Prelude.{◌≡◌, true, false};
 ghost use Rattle.lock.specs.Fresh.{Fresh};
 ghost use Rattle.solo.specs.Meaning.{solo_meaning, at_rest};
 ghost use Rattle.solo.specs.Law;
@@ -25,6 +25,18 @@ impl Solo {
     {
         Solo { only: Stage::Rest }
     }
+
+    // Takes the only station from one stage to another, if that is asked of it there. Says whether it did.
+    fn go(&mut self, station: usize, from: Stage, to: Stage) -> bool
+        ensures goes { (station ≡ 1) × (self.old.only ≡ from) → (self.new ≡ record { only = to }) × (result ≡ true) }
+        ensures stays { ((station ≡ 1) × (self.old.only ≡ from) → ⊥) → (self.new ≡ self.old) × (result ≡ false) }
+    {
+        let goes = station == 1 && self.only == from;
+        if goes {
+            self.only = to;
+        }
+        goes
+    }
 }
 
 impl Lock for Solo {
@@ -33,40 +45,19 @@ impl Lock for Solo {
     ghost lawful = { Law.lawful };
 
     fn stage(&self, station: usize) -> Option<Stage> {
-        if station == 1 { Some(self.only) } else { None }
+        (station == 1).then_some(self.only)
     }
 
     fn begin(&mut self, station: usize) -> bool {
-        match (station, self.only) {
-            (1, Stage::Rest) => {
-                self.only = Stage::Trying;
-                true
-            }
-            _ => false,
-        }
+        self.go(station, Stage::Rest, Stage::Trying)
     }
 
     fn turn(&mut self, station: usize) -> bool {
-        match (station, self.only) {
-            (1, Stage::Trying) => {
-                self.only = Stage::Inside;
-                true
-            }
-            (1, Stage::Leaving) => {
-                self.only = Stage::Rest;
-                true
-            }
-            _ => false,
-        }
+        self.go(station, Stage::Trying, Stage::Inside)
+            || self.go(station, Stage::Leaving, Stage::Rest)
     }
 
     fn end(&mut self, station: usize) -> bool {
-        match (station, self.only) {
-            (1, Stage::Inside) => {
-                self.only = Stage::Leaving;
-                true
-            }
-            _ => false,
-        }
+        self.go(station, Stage::Inside, Stage::Leaving)
     }
 }
