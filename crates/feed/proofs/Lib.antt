@@ -9,5 +9,4 @@ pub mod Trims
 pub mod Courses
 pub mod Fits
 pub mod Steps
-pub mod Refusals
 pub mod Reversals

@@ -147,7 +147,7 @@ impl Task {
             Task::UndoWriteSetpoint { setpoint } => Access::Write(Register::Setpoint, setpoint),
             Task::UndoClearSigner => Access::Write(Register::Signer, 0),
             Task::SignReadSetpoint { .. } => Access::Read(Register::Setpoint),
-            Task::SignWriteSigner => Access::Write(Register::Signer, station as i32),
+            Task::SignWriteSigner => Access::Write(Register::Signer, i32::from(station)),
         }
     }
 
