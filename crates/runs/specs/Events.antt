@@ -1,5 +1,6 @@
 -- A list of calls: the event of each, and the rack after all of them.
 use Rattle.std.specs.Prelude.{List, [], ◌∷◌}
+use Rattle.std.specs.List.{fold}
 use Rattle.lock.specs.Meaning.{Meaning}
 use Rattle.rack.specs.Calls.{order_answer, order_rack, slot_answer, slot_rack, look_answer, board_answer}
 use Rattle.rack.specs.declared.calls.Rack.{Rack}
@@ -21,8 +22,7 @@ after m r (Look i) = r
 after m r Show = r
 
 abbrev pub ran : {L : Type 0} → Meaning L → Rack L → List Call → Rack L
-ran m r [] = r
-ran m r (c ∷ cs) = ran m (after m r c) cs
+ran m = fold (after m)
 
 abbrev pub events : {L : Type 0} → Meaning L → Rack L → List Call → List Event
 events m r [] = []

@@ -1,5 +1,6 @@
 -- The ledger: what the finished jobs, each done whole, one after the other, would leave. It knows nothing of racks and locks.
-use Rattle.std.specs.Prelude.{ℕ, cond, List, [], ◌∷◌, pos, Some, None, Ok, Err, Option, ◌==◌}
+use Rattle.std.specs.Prelude.{ℕ, cond, List, pos, Some, None, Ok, Err, Option, ◌==◌}
+use Rattle.std.specs.List.{fold}
 use Rattle.feed.specs.Board.{fresh}
 use Rattle.feed.specs.Whole.{whole}
 use Rattle.feed.specs.declared.board.Board.{Board}
@@ -51,8 +52,7 @@ fed g (Looked i a) = g
 fed g (Shown v) = g
 
 abbrev pub fed_all : Ledger → List Event → Ledger
-fed_all g [] = g
-fed_all g (e ∷ es) = fed_all (fed g e) es
+fed_all = fold fed
 
 -- the ledger that is fed the start and then the events
 abbrev pub ledger : ℕ → List Event → Ledger

@@ -1,5 +1,6 @@
 -- What events tell by themselves, with no rack and no lock in sight.
 use Rattle.std.specs.Prelude.{ℕ, zero, suc, ◌+◌, Bool, true, false, cond, List, [], ◌∷◌, Ok, Err, ◌==◌}
+use Rattle.std.specs.List.{fold}
 use Rattle.lock.specs.declared.stage.Stage.{Stage}
 use Rattle.lock.specs.declared.stage.Stage.TheVariants.{Rest, Trying, Inside, Leaving}
 use Rattle.answers.specs.declared.Served.{Served}
@@ -74,8 +75,7 @@ since_after i c (Looked j a) = c
 since_after i c (Shown v) = c
 
 abbrev pub since_from : ℕ → ℕ → List Event → ℕ
-since_from i c [] = c
-since_from i c (e ∷ es) = since_from i (since_after i c e) es
+since_from i = fold (since_after i)
 
 abbrev pub since : List Event → ℕ → ℕ
 since es i = since_from i 0 es
@@ -101,8 +101,7 @@ told_after i x (Looked j a) = x
 told_after i x (Shown v) = x
 
 abbrev pub told_from : ℕ → Stage → List Event → Stage
-told_from i x [] = x
-told_from i x (e ∷ es) = told_from i (told_after i x e) es
+told_from i = fold (told_after i)
 
 abbrev pub told : List Event → ℕ → Stage
 told es i = told_from i Rest es
