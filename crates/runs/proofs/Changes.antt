@@ -12,9 +12,9 @@ use Rattle.rack.specs.Calls.{rack_of, with_kept, idle}
 use Rattle.rack.specs.declared.calls.Station.{Station}
 use Rattle.rack.specs.declared.calls.Rack.{Rack}
 use Rattle.runs.specs.declared.events.Event.{Event}
-use Rattle.runs.specs.Told.{acceptance, finishing, bit, tries, works}
+use Rattle.runs.specs.Told.{acceptance, finishing, tries, works}
 use Rattle.runs.proofs.Stations.{kept_at, kept_off}
-use Rattle.runs.proofs.Tallies.{tally-moved}
+use Rattle.runs.proofs.Tallies.{bit, tally-moved}
 use Rattle.runs.proofs.Heard.{Heard, heard}
 use Rattle.runs.proofs.Fixed.{Fixed}
 use Rattle.runs.proofs.Good.{Known, Middle, Agree, Good}

@@ -1,5 +1,6 @@
 -- The invariant: what holds of a rack, beside all that was heard, after every call.
 use Rattle.std.proofs.Common.{◌≡◌, ℕ, ◌+◌, ◌-◌, ◌<◌, min, List, length, get_or, Some, Option}
+use Rattle.std.specs.List.{count_by}
 use Rattle.lock.specs.declared.stage.Stage.{Stage}
 use Rattle.lock.specs.declared.stage.Stage.TheVariants.{Trying, Inside}
 use Rattle.lock.specs.Stages as stages
@@ -14,7 +15,7 @@ use Rattle.feed.specs.declared.task.Task.{Task}
 use Rattle.rack.specs.Calls.{idle}
 use Rattle.rack.specs.declared.calls.Station.{Station}
 use Rattle.rack.specs.declared.calls.Rack.{Rack}
-use Rattle.runs.specs.Told.{tally, tries, works}
+use Rattle.runs.specs.Told.{tries, works}
 use Rattle.runs.specs.Ledger.{Ledger}
 use Rattle.runs.proofs.Fixed.{Fixed}
 use Rattle.runs.proofs.Heard.{Heard}
@@ -56,7 +57,7 @@ pub record Agree (start n : ℕ) (h : Heard) (s : List Stage) (kept : List Stati
   pub fit : Fit start n h.ledger.board
   pub known : (j : ℕ) → stages.Station s j → Known h j (asked s j) (get_or kept (j - 1) idle)
   pub middle : Middle s kept now h.ledger
-  pub balance : h.accepted ≡ h.finished + tally tries s + tally works s
+  pub balance : h.accepted ≡ h.finished + count_by tries s + count_by works s
 
 pub record Good {L : Type 0} (m : Meaning L) (lock : L) (start : ℕ) (h : Heard) (r : Rack L) : Type 0 where
   pub fixed : Fixed m lock r.lock

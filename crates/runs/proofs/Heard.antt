@@ -1,5 +1,7 @@
 -- What the events tell, taken in one at a time: the ledger, the two counts, and of each station its stage and its slots since its order.
 use Rattle.std.proofs.Common.{◌≡◌, ℕ, ◌+◌, List, [], ◌∷◌, refl, ◌∙◌, arith}
+use Rattle.std.proofs.lemmas.List.Sums.{sum_by-cons}
+use Rattle.std.specs.List.{fold}
 use Rattle.lock.specs.declared.stage.Stage.{Stage}
 use Rattle.lock.specs.declared.stage.Stage.TheVariants.{Rest}
 use Rattle.runs.specs.declared.events.Event.{Event}
@@ -29,8 +31,7 @@ heard h e =
     }
 
 abbrev pub heard_all : Heard → List Event → Heard
-heard_all h [] = h
-heard_all h (e ∷ es) = heard_all (heard h e) es
+heard_all = fold heard
 
 -- it is what the definitions over whole lists say
 pub heard-ledger : (es : List Event) (h : Heard) → (heard_all h es).ledger ≡ fed_all h.ledger es
@@ -39,11 +40,11 @@ heard-ledger (e ∷ es) h = heard-ledger es (heard h e)
 
 pub heard-accepted : (es : List Event) (h : Heard) → (heard_all h es).accepted ≡ h.accepted + accepted es
 heard-accepted [] h = omega arith
-heard-accepted (e ∷ es) h = heard-accepted es (heard h e) ∙ omega arith
+heard-accepted (e ∷ es) h = heard-accepted es (heard h e) ∙ omega (arith, sum_by-cons acceptance e es)
 
 pub heard-finished : (es : List Event) (h : Heard) → (heard_all h es).finished ≡ h.finished + finished es
 heard-finished [] h = omega arith
-heard-finished (e ∷ es) h = heard-finished es (heard h e) ∙ omega arith
+heard-finished (e ∷ es) h = heard-finished es (heard h e) ∙ omega (arith, sum_by-cons finishing e es)
 
 pub heard_stage : (es : List Event) (h : Heard) (j : ℕ) → (heard_all h es).stage j ≡ told_from j (h.stage j) es
 heard_stage [] h j = refl

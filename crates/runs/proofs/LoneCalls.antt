@@ -1,5 +1,7 @@
 -- A lone order, from its acceptance through any calls of which none is another accepted order.
 use Rattle.std.proofs.Common.{◌≡◌, ℕ, suc, ◌+◌, ◌-◌, ◌≤◌, List, [], ◌∷◌, length, Some, None, Ok, Err, Option, Result, sym, refl, ap, ◌∙◌, subst, inl, inr, arith}
+use Rattle.std.specs.List.{sum_by}
+use Rattle.std.proofs.lemmas.List.Sums.{sum_by-cons}
 use Rattle.std.proofs.lemmas.Bool.{cases_eq}
 use Rattle.std.proofs.lemmas.List.{length-set}
 use Rattle.lock.specs.declared.stage.Stage.{Stage}
@@ -19,7 +21,7 @@ use Rattle.runs.specs.declared.events.Call.{Call}
 use Rattle.runs.specs.declared.events.Call.TheVariants.{Order, Slot, Look, Show}
 use Rattle.runs.specs.declared.events.Event.TheVariants.{Ordered, Slotted}
 use Rattle.runs.specs.Events.{event, after, ran, events}
-use Rattle.runs.specs.Told.{total, acceptance, accepted, mine, asking, serving}
+use Rattle.runs.specs.Told.{acceptance, accepted, mine, asking, serving}
 use Rattle.runs.proofs.Tests.{never, cond_at, cond_off}
 use Rattle.runs.proofs.Stations.{known_stage, lock_stage, kept_at}
 use Rattle.runs.proofs.Turned.{stage_after, others_after}
@@ -116,9 +118,13 @@ module _ {L : Type 0} (m : Meaning L) (laws : Lawful m) (lock quiet : L) (i : �
     lone_call Show e = unaltered
 
   pub lone_calls : (cs : List Call) (r : Rack L) (served wanted : ℕ) → Lonely m lock quiet i book job r served wanted → accepted (events m r cs) ≡ 0 →
-      {served' wanted' : ℕ} → served' ≡ served + total (serving i) (events m r cs) → wanted' ≡ wanted + total (asking i) (events m r cs) →
+      {served' wanted' : ℕ} → served' ≡ served + sum_by (serving i) (events m r cs) → wanted' ≡ wanted + sum_by (asking i) (events m r cs) →
       Lonely m lock quiet i book job (ran m r cs) served' wanted'
   lone_calls [] r served wanted lonely none e f = recounted (omega arith) (omega arith) lonely
   lone_calls (c ∷ cs) r served wanted lonely none e f =
+      let rest = events m (after m r c) cs in
+      let first = sum_by-cons acceptance (event m r c) rest in
+      let served_first = sum_by-cons (serving i) (event m r c) rest in
+      let asked_first = sum_by-cons (asking i) (event m r c) rest in
       let next = lone_call r served wanted lonely c (omega arith) in
       lone_calls cs (after m r c) (served + serving i (event m r c)) (wanted + asking i (event m r c)) next (omega arith) (omega arith) (omega arith)

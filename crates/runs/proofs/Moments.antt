@@ -1,5 +1,6 @@
 -- A rack after some calls from its set-up on, in the words of the promise: what holds of it beside the events.
 use Rattle.std.proofs.Common.{◌≡◌, ℕ, ◌+◌, ◌≤◌, min, List, length, Some, ap, ◌∙◌, subst, arith}
+use Rattle.std.specs.List.{count_by}
 use Rattle.lock.specs.Stages.{asked}
 use Rattle.lock.specs.Meaning.{Meaning, Lawful}
 use Rattle.feed.specs.Job.{ceiling}
@@ -9,7 +10,7 @@ use Rattle.rack.specs.declared.calls.Rack.{Rack}
 use Rattle.runs.specs.declared.events.Call.{Call}
 use Rattle.runs.specs.declared.events.Event.{Event}
 use Rattle.runs.specs.Events.{ran, events}
-use Rattle.runs.specs.Told.{accepted, finished, since, told, tally, tries, works}
+use Rattle.runs.specs.Told.{accepted, finished, since, told, tries, works}
 use Rattle.runs.specs.Ledger.{ledger}
 use Rattle.runs.specs.Promise.{Ready}
 use Rattle.runs.proofs.Heard.{Heard, silent, heard_all, heard-ledger, heard-accepted, heard-finished, heard_stage, heard-since}
@@ -26,7 +27,7 @@ pub record Moment {L : Type 0} (m : Meaning L) (lock : L) (start : ℕ) (es : Li
   pub last : (i : ℕ) → 1 ≤ i → i ≤ length (m.stages lock) → (kept r i).last ≡ (ledger start es).last i
   pub fit : Fit start (length (m.stages lock)) (ledger start es).board
   pub middle : Middle (m.stages r.lock) r.stations r.board (ledger start es)
-  pub balance : accepted es ≡ finished es + tally tries (m.stages r.lock) + tally works (m.stages r.lock)
+  pub balance : accepted es ≡ finished es + count_by tries (m.stages r.lock) + count_by works (m.stages r.lock)
 
 module _ {L : Type 0} (m : Meaning L) (laws : Lawful m) (lock : L) (start : ℕ) (ready : Ready m lock) (low : start ≤ ceiling) (cs : List Call) where
   abbrev es : List Event

@@ -1,5 +1,6 @@
 -- The promise, at every moment of a list of calls.
 use Rattle.std.proofs.Common.{◌≡◌, ℕ, ◌+◌, ◌≤◌, min, List, [], length, Some, Ok, Option, Result, sym, subst, ap, ◌∙◌, arith}
+use Rattle.std.specs.List.{count_by}
 use Rattle.std.proofs.lemmas.List.{append-nil}
 use Rattle.lock.specs.declared.stage.Stage.{Stage}
 use Rattle.lock.specs.declared.stage.Stage.TheVariants.{Inside}
@@ -16,7 +17,7 @@ use Rattle.rack.specs.declared.calls.Rack.{Rack}
 use Rattle.runs.specs.declared.events.Call.{Call}
 use Rattle.runs.specs.declared.events.Event.{Event}
 use Rattle.runs.specs.Events.{ran, events}
-use Rattle.runs.specs.Told.{accepted, finished, trying, inside, since, told, tally, tries, works}
+use Rattle.runs.specs.Told.{accepted, finished, trying, inside, since, told, tries, works}
 use Rattle.runs.specs.Ledger.{ledger}
 use Rattle.runs.specs.Promise.{Ready, ShownByLook, OneInside, up_to, Lone, BoundedCost, ExactCost, Promise, Throughout}
 use Rattle.runs.proofs.Stations.{lock_stage}
@@ -70,8 +71,8 @@ module _ {L : Type 0} (m : Meaning L) (laws : Lawful m) (lock : L) (start : ℕ)
   balanced =
       let all = told_all es (m.stages r.lock) n M.fixed.number M.stage in
       let b = M.balance in
-      let t = ap (tally tries) all in
-      let w = ap (tally works) all in
+      let t = ap (count_by tries) all in
+      let w = ap (count_by works) all in
       omega arith
 
 module _ {L : Type 0} (m : Meaning L) (laws : Lawful m) (lock : L) (start : ℕ) (ready : Ready m lock) (low : start ≤ ceiling) where

@@ -1,10 +1,12 @@
 -- The slots of a station since its last order: with no order accepted after that one, all those served.
-use Rattle.std.proofs.Common.{◌≡◌, ℕ, ◌+◌, cond, eqb, List, [], ◌∷◌, ◌++◌, Ok, Err, refl, ap, ◌∙◌, arith}
+use Rattle.std.proofs.Common.{◌≡◌, ℕ, ◌+◌, cond, eqb, List, [], ◌∷◌, Ok, Err, ap, ◌∙◌, arith}
+use Rattle.std.specs.List.{sum_by}
+use Rattle.std.proofs.lemmas.List.Sums.{fold-append, sum_by-cons}
 use Rattle.std.proofs.lemmas.Bool.Decides.{nat_tests}
 use Rattle.feed.specs.declared.job.Job.{Job}
 use Rattle.runs.specs.declared.events.Event.{Event}
 use Rattle.runs.specs.declared.events.Event.TheVariants.{Ordered, Slotted, Looked, Shown}
-use Rattle.runs.specs.Told.{total, acceptance, accepted, serving, since_after, since_from, since}
+use Rattle.runs.specs.Told.{acceptance, accepted, serving, since_after, since_from, since}
 use Rattle.runs.specs.Promise.{up_to}
 use Rattle.runs.proofs.Tests.{cond_at}
 
@@ -20,14 +22,13 @@ module _ (i : ℕ) where
   since_more c (Looked j a) h = omega arith
   since_more c (Shown v) h = omega arith
 
-  since-served : (es : List Event) (c : ℕ) → accepted es ≡ 0 → since_from i c es ≡ c + total (serving i) es
+  since-served : (es : List Event) (c : ℕ) → accepted es ≡ 0 → since_from i c es ≡ c + sum_by (serving i) es
   since-served [] c h = omega arith
-  since-served (e ∷ es) c h = let more = since_more c e (omega arith) in since-served es (since_after i c e) (omega arith) ∙ omega arith
+  since-served (e ∷ es) c h =
+      let first = sum_by-cons acceptance e es in
+      let more = since_more c e (omega arith) in
+      since-served es (since_after i c e) (omega arith) ∙ omega (arith, sum_by-cons (serving i) e es)
 
-  since-append : (xs ys : List Event) (c : ℕ) → since_from i c (xs ++ ys) ≡ since_from i (since_from i c xs) ys
-  since-append [] ys c = refl
-  since-append (x ∷ xs) ys c = since-append xs ys (since_after i c x)
-
-  pub since_order : (before : List Event) (job : Job) (after : List Event) → accepted after ≡ 0 → since (up_to before i job after) i ≡ total (serving i) after
+  pub since_order : (before : List Event) (job : Job) (after : List Event) → accepted after ≡ 0 → since (up_to before i job after) i ≡ sum_by (serving i) after
   since_order before job after h =
-      since-append before (Ordered i job (Ok tt) ∷ after) 0 ∙ ap (λ z. since_from i z after) (cond_at i 0 (since before i)) ∙ since-served after 0 h ∙ omega arith
+      fold-append (since_after i) 0 before (Ordered i job (Ok tt) ∷ after) ∙ ap (λ z. since_from i z after) (cond_at i 0 (since before i)) ∙ since-served after 0 h ∙ omega arith

@@ -1,5 +1,6 @@
 -- A lone order in a list of events, followed through the calls that the events came from.
 use Rattle.std.proofs.Common.{◌≡◌, ℕ, ◌≤◌, List, [], ◌∷◌, length, Some, Ok, sym, ap, ◌∙◌, subst, inl, inr, arith}
+use Rattle.std.specs.List.{sum_by}
 use Rattle.std.proofs.lemmas.List.{append-nil}
 use Rattle.std.proofs.lemmas.Bool.{cases_eq}
 use Rattle.lock.specs.declared.stage.Stage.TheVariants.{Rest, Inside}
@@ -19,7 +20,7 @@ use Rattle.runs.specs.declared.events.Call.{Call}
 use Rattle.runs.specs.declared.events.Event.{Event}
 use Rattle.runs.specs.declared.events.Event.TheVariants.{Ordered}
 use Rattle.runs.specs.Events.{ran, events}
-use Rattle.runs.specs.Told.{total, accepted, asking, serving, told}
+use Rattle.runs.specs.Told.{accepted, asking, serving, told}
 use Rattle.runs.specs.Ledger.{ledger}
 use Rattle.runs.specs.Promise.{Ready, up_to, Lone}
 use Rattle.runs.proofs.Tests.{never}
@@ -42,7 +43,7 @@ pub record Tale {L : Type 0} (m : Meaning L) (lock : L) (book : Board) (i : ℕ)
   pub fixed : Fixed m lock quiet
   pub at_rest : AllRest (m.stages quiet)
   pub station : stages.Station (m.stages quiet) i
-  pub lonely : Lonely m lock quiet i book job r (total (serving i) after) (total (asking i) after)
+  pub lonely : Lonely m lock quiet i book job r (sum_by (serving i) after) (sum_by (asking i) after)
 
 -- an order that a resting station of a rack is given while all others rest
 module _ {L : Type 0} (m : Meaning L) (laws : Lawful m) (lock : L) (start : ℕ) (before : List Event) (r : Rack L) (found : Moment m lock start before r) where

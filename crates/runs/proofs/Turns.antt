@@ -13,7 +13,7 @@ use Rattle.answers.specs.declared.Served.{Served}
 use Rattle.answers.specs.declared.Served.TheVariants.{StillTrying, NowInside, StillLeaving, NowResting}
 use Rattle.rack.specs.declared.calls.Rack.{Rack}
 use Rattle.runs.specs.declared.events.Event.TheVariants.{Slotted}
-use Rattle.runs.specs.Told.{ending, bit, tries, works, tells}
+use Rattle.runs.specs.Told.{ending, tries, works, tells}
 use Rattle.runs.specs.Ledger.{Ledger, served}
 use Rattle.runs.proofs.Tests.{never}
 use Rattle.runs.proofs.Stations.{kept_at}
@@ -23,6 +23,7 @@ use Rattle.runs.proofs.Good.{Waiting, Known, Midway, Middle, somebody, Good}
 use Rattle.runs.proofs.Middles.{Exclusive, book_is, middle_aside, nobody_before}
 use Rattle.runs.proofs.Changes.{altered}
 use Rattle.runs.proofs.Slots.{slot_others, slot_known}
+use Rattle.runs.proofs.Tallies.{bit}
 
 module _ {L : Type 0} (m : Meaning L) (laws : Lawful m) (lock : L) (start : ℕ) (h : Heard) (r : Rack L) (good : Good m lock start h r) (i : ℕ) (most : i ≤ 16) where
   abbrev s : List Stage

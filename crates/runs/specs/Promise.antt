@@ -1,6 +1,7 @@
 -- What the works rely on after any list of calls, in any order of slots, whatever the lock.
 -- It speaks of the events, of the ledger, and of what look and board show.
 use Rattle.std.specs.Prelude.{◌≡◌, ℕ, ◌+◌, ◌≤◌, min, List, ◌∷◌, ◌++◌, length, pos, ◌+ℤ◌, Some, None, Ok, ◌≢◌, nat_le}
+use Rattle.std.specs.List.{sum_by}
 use Rattle.lock.specs.declared.stage.Stage.TheVariants.{Rest, Inside}
 use Rattle.lock.specs.Stages.{AllRest}
 use Rattle.lock.specs.Meaning.{Meaning, Exactly}
@@ -13,7 +14,7 @@ use Rattle.runs.specs.declared.events.Call.{Call}
 use Rattle.runs.specs.declared.events.Event.{Event}
 use Rattle.runs.specs.declared.events.Event.TheVariants.{Ordered}
 use Rattle.runs.specs.Events.{events, ran}
-use Rattle.runs.specs.Told.{total, accepted, finished, asking, serving, since, told, trying, inside, rests}
+use Rattle.runs.specs.Told.{accepted, finished, asking, serving, since, told, trying, inside, rests}
 use Rattle.runs.specs.Ledger.{ledger}
 
 -- a lock to set up a rack with: sound, and all its stations at rest
@@ -63,15 +64,15 @@ module _ {L : Type 0} (m : Meaning L) (lock : L) (start : ℕ) (before : List Ev
   -- its station's count is the slots served to it since, which are at most the lock's two numbers and the job's accesses;
   -- and that many slots asked for suffice to bring it to rest
   pub record BoundedCost : Type 0 where
-    pub count_is : since (up_to before i job after) i ≡ total (serving i) after
-    pub at_most : total (serving i) after ≤ m.lone lock + m.leave lock + accesses start before i job
-    pub suffices : m.lone lock + m.leave lock + accesses start before i job ≤ total (asking i) after → told (up_to before i job after) i ≡ Rest
+    pub count_is : since (up_to before i job after) i ≡ sum_by (serving i) after
+    pub at_most : sum_by (serving i) after ≤ m.lone lock + m.leave lock + accesses start before i job
+    pub suffices : m.lone lock + m.leave lock + accesses start before i job ≤ sum_by (asking i) after → told (up_to before i job after) i ≡ Rest
 
   -- with a lock whose lone cost is exact: the slot that makes up that cost and the job's accesses brings the station to rest, and none before;
   -- the slots served are those asked for up to that one
   pub record ExactCost (cost : ℕ) : Type 0 where
-    pub rests_then : rests (told (up_to before i job after) i) ≡ nat_le (cost + accesses start before i job) (total (asking i) after)
-    pub served_till_then : total (serving i) after ≡ min (total (asking i) after) (cost + accesses start before i job)
+    pub rests_then : rests (told (up_to before i job after) i) ≡ nat_le (cost + accesses start before i job) (sum_by (asking i) after)
+    pub served_till_then : sum_by (serving i) after ≡ min (sum_by (asking i) after) (cost + accesses start before i job)
 
 -- THE PROMISE, of a rack after some events, set up with a lock and a start
 pub record Promise {L : Type 0} (m : Meaning L) (lock : L) (start : ℕ) (es : List Event) (r : Rack L) : Type 0 where

@@ -1,17 +1,12 @@
 -- What events tell by themselves, with no rack and no lock in sight.
-use Rattle.std.specs.Prelude.{ℕ, zero, suc, ◌+◌, Bool, true, false, cond, List, [], ◌∷◌, Ok, Err, ◌==◌}
-use Rattle.std.specs.List.{fold}
+use Rattle.std.specs.Prelude.{ℕ, ◌+◌, Bool, true, false, cond, List, map, Ok, Err, ◌==◌}
+use Rattle.std.specs.List.{fold, sum_by, count_by, range_with_len}
 use Rattle.lock.specs.declared.stage.Stage.{Stage}
 use Rattle.lock.specs.declared.stage.Stage.TheVariants.{Rest, Trying, Inside, Leaving}
 use Rattle.answers.specs.declared.Served.{Served}
 use Rattle.answers.specs.declared.Served.TheVariants.{StillTrying, NowInside, Working, Ended, StillLeaving, NowResting}
 use Rattle.runs.specs.declared.events.Event.{Event}
 use Rattle.runs.specs.declared.events.Event.TheVariants.{Ordered, Slotted, Looked, Shown}
-
--- the sum of a number for each event
-abbrev pub total : (Event → ℕ) → List Event → ℕ
-total f [] = 0
-total f (e ∷ es) = f e + total f es
 
 -- ACCEPTED ORDERS AND FINISHED JOBS
 
@@ -40,10 +35,10 @@ finishing (Looked i a) = 0
 finishing (Shown v) = 0
 
 abbrev pub accepted : List Event → ℕ
-accepted es = total acceptance es
+accepted es = sum_by acceptance es
 
 abbrev pub finished : List Event → ℕ
-finished es = total finishing es
+finished es = sum_by finishing es
 
 -- THE SLOTS OF A STATION
 
@@ -106,14 +101,9 @@ told_from i = fold (told_after i)
 abbrev pub told : List Event → ℕ → Stage
 told es i = told_from i Rest es
 
--- the stages told of k stations from the number i on
-abbrev pub stages_from : List Event → ℕ → ℕ → List Stage
-stages_from es i zero = []
-stages_from es i (suc k) = told es i ∷ stages_from es (suc i) k
-
--- how many of n stations are at a stage
-abbrev pub bit : Bool → ℕ
-bit b = cond b 1 0
+-- the stages told of stations 1 to n
+abbrev pub all_told : List Event → ℕ → List Stage
+all_told es n = map (told es) (range_with_len 1 n)
 
 abbrev pub tries : Stage → Bool
 tries Rest = false
@@ -133,12 +123,9 @@ rests Trying = false
 rests Inside = false
 rests Leaving = false
 
-abbrev pub tally : (Stage → Bool) → List Stage → ℕ
-tally p [] = 0
-tally p (x ∷ xs) = bit (p x) + tally p xs
-
+-- how many of n stations are trying, and how many are inside
 abbrev pub trying : ℕ → List Event → ℕ
-trying n es = tally tries (stages_from es 1 n)
+trying n es = count_by tries (all_told es n)
 
 abbrev pub inside : ℕ → List Event → ℕ
-inside n es = tally works (stages_from es 1 n)
+inside n es = count_by works (all_told es n)

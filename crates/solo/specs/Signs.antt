@@ -1,5 +1,6 @@
 -- The only station signs the setpoint of 200,000 kg/h.
 use Rattle.std.specs.Prelude.{◌≡◌, min, List, [], ◌∷◌, ◌++◌, pos, Ok, Err, nat_le}
+use Rattle.std.specs.List.{sum_by}
 use Rattle.feed.specs.declared.job.Job.{Job}
 use Rattle.feed.specs.declared.job.Job.TheVariants.{Sign}
 use Rattle.feed.specs.declared.job.Verdict.TheVariants.{Done}
@@ -9,7 +10,7 @@ use Rattle.runs.specs.declared.events.Call.{Call}
 use Rattle.runs.specs.declared.events.Call.TheVariants.{Order, Slot}
 use Rattle.runs.specs.declared.events.Event.{Event}
 use Rattle.runs.specs.declared.events.Event.TheVariants.{Ordered, Slotted}
-use Rattle.runs.specs.Told.{total, accepted, asking, serving, told, rests}
+use Rattle.runs.specs.Told.{accepted, asking, serving, told, rests}
 use Rattle.runs.specs.Promise.{up_to}
 
 abbrev pub job : Job
@@ -27,4 +28,4 @@ answers =
 abbrev pub FourSlots : List Event → Type 0
 FourSlots es =
     (after later : List Event) → es ≡ up_to [] 1 job after ++ later → accepted after ≡ 0 →
-    (rests (told (up_to [] 1 job after) 1) ≡ nat_le 4 (total (asking 1) after)) × (total (serving 1) after ≡ min (total (asking 1) after) 4)
+    (rests (told (up_to [] 1 job after) 1) ≡ nat_le 4 (sum_by (asking 1) after)) × (sum_by (serving 1) after ≡ min (sum_by (asking 1) after) 4)
