@@ -6,9 +6,10 @@ use Rattle.answers.specs.declared.View.{View}
 use Rattle.runs.specs.declared.events.Event.{Event}
 use Rattle.runs.specs.declared.events.Event.TheVariants.{Ordered, Slotted, Looked, Shown}
 use Rattle.sheet.specs.declared.calls.WrongForm.{WrongForm as Place}
-use Rattle.sheet.specs.declared.line.SetUp.{SetUp}
+use Rattle.kinds.specs.declared.set_up.SetUp.{SetUp}
 use Rattle.columns.specs.Field.{line_text}
-use Rattle.sheet.specs.Line.{kind_letter, job_letter}
+use Rattle.kinds.specs.Names.{kind_letter}
+use Rattle.sheet.specs.Line.{job_letter}
 use Rattle.output.specs.declared.SheetRefusal.{SheetRefusal}
 use Rattle.output.specs.declared.SheetRefusal.TheVariants.{WrongForm, TooLong}
 

@@ -4,17 +4,16 @@
 ghost use Rattle.std.specs.Prelude.{◌≡◌, ◌++◌, OnOk, decimal};
 ghost use Rattle.std.specs.List.{flat_map};
 ghost use Rattle.columns.specs.Field.{line_text};
-ghost use Rattle.sheet.specs.Line.{kind_letter, job_letter};
+ghost use Rattle.sheet.specs.Line.{job_letter};
 ghost use Rattle.output.specs.Output.{set_up_line, event_line, sheet_refusal_number, sheet_refusal_line, board_lines, end_lines};
 
 use answers::{Answer, View};
 use columns::field::Content;
 use columns::write::{write_line, write_signed};
 use feed::job::Job;
-use kinds::LockKind;
+use kinds::set_up::SetUp;
 use runs::events::Event;
 use sheet::calls::WrongForm;
-use sheet::line::SetUp;
 use std::alloc::AllocError;
 
 // Why a sheet, or the rest of it, is not read.
@@ -47,15 +46,6 @@ impl SheetRefusal {
     }
 }
 
-fn letter_of_kind(kind: LockKind) -> u8
-    ensures { result ≡ kind_letter kind }
-{
-    match kind {
-        LockKind::Fast => b'F',
-        LockKind::OneBit => b'B',
-    }
-}
-
 fn letter_of_job(job: Job) -> u8
     ensures { result ≡ job_letter job }
 {
@@ -77,7 +67,7 @@ fn answer_line(letter: u8, station: usize, number: u8) -> [u8; 13]
 pub fn line_of_set_up(set_up: SetUp, number: u8) -> [u8; 13]
     ensures { result ≡ set_up_line set_up number }
 {
-    answer_line(letter_of_kind(set_up.kind), set_up.stations, number)
+    answer_line(set_up.kind.into(), set_up.stations, number)
 }
 
 // Adds the answer to an order or to a slot: its letter, its station and the answer's number.

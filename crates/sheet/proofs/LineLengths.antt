@@ -2,8 +2,9 @@
 use Rattle.std.proofs.Common.{◌≡◌, ℕ, ◌≤◌, min, List, length, take, decimal, sym, ap, ◌∙◌, arith, length-take}
 use Rattle.std.specs.Fmt.{signed_decimal}
 use Rattle.sheet.specs.declared.line.Call.{Call}
-use Rattle.sheet.specs.declared.line.SetUp.{SetUp}
-use Rattle.sheet.specs.Line.{kind_letter, set_up_text, call_letter, call_station, call_value, call_text}
+use Rattle.kinds.specs.declared.set_up.SetUp.{SetUp}
+use Rattle.kinds.specs.Names.{kind_letter}
+use Rattle.sheet.specs.Line.{set_up_text, call_letter, call_station, call_value, call_text}
 use Rattle.columns.proofs.Fields.{line_length}
 
 pub set_up-length : (x : SetUp) → length (set_up_text x) ≡ 13

@@ -5,10 +5,11 @@ use Rattle.kinds.specs.declared.LockKind.TheVariants.{Fast, OneBit}
 use Rattle.columns.specs.declared.field.Form.TheVariants.{Natural}
 use Rattle.columns.specs.declared.field.Content.{Content}
 use Rattle.columns.specs.declared.field.Content.TheVariants.{Number}
-use Rattle.sheet.specs.declared.line.SetUp.{SetUp}
+use Rattle.kinds.specs.declared.set_up.SetUp.{SetUp}
 use Rattle.columns.specs.declared.wrong.WrongColumn.{WrongColumn}
 use Rattle.columns.specs.Field.{shown, size_of, Fits, fields_text}
-use Rattle.sheet.specs.Line.{kind_letter, set_up_text, FitsSetUp, Wrong, LegalFirst, SetUpRead}
+use Rattle.kinds.specs.Names.{kind_letter}
+use Rattle.sheet.specs.Line.{set_up_text, FitsSetUp, Wrong, LegalFirst, SetUpRead}
 use Rattle.sheet.proofs.Lines.{Lines, Read, wrong_letter, wrong, right}
 
 abbrev kind_at : ℕ → LockKind

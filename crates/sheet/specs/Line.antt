@@ -1,20 +1,14 @@
 -- The legal lines of a sheet, and the wrong column of one that is not legal.
-use Rattle.std.specs.Prelude.{◌≡◌, ℕ, ◌+◌, ◌^◌, ◌<◌, ◌≤◌, List, length, take, ℤ, pos, negsuc, Some, None, Ok, Err, decimal, Option, Result, ◌≢◌}
+use Rattle.std.specs.Prelude.{◌≡◌, ℕ, ◌+◌, ◌^◌, ◌<◌, ◌≤◌, List, length, take, ℤ, pos, negsuc, Ok, Err, decimal, Result, ◌≢◌}
 use Rattle.std.specs.Fmt.{signed_decimal}
 use Rattle.feed.specs.declared.job.Job.{Job}
 use Rattle.feed.specs.declared.job.Job.TheVariants.{Trim, Undo, Sign}
-use Rattle.kinds.specs.declared.LockKind.{LockKind}
-use Rattle.kinds.specs.declared.LockKind.TheVariants.{Fast, OneBit}
-use Rattle.sheet.specs.declared.line.SetUp.{SetUp}
+use Rattle.kinds.specs.declared.set_up.SetUp.{SetUp}
+use Rattle.kinds.specs.Names.{kind_letter}
 use Rattle.sheet.specs.declared.line.Call.{Call}
 use Rattle.sheet.specs.declared.line.Call.TheVariants.{Order, Slot}
 use Rattle.columns.specs.declared.wrong.WrongColumn.{WrongColumn}
 use Rattle.columns.specs.Field.{line_text}
-
--- 'F' and 'B'
-abbrev pub kind_letter : LockKind → ℕ
-kind_letter Fast = 70
-kind_letter OneBit = 66
 
 abbrev pub set_up_text : SetUp → List ℕ
 set_up_text x = line_text (kind_letter x.kind) x.stations (decimal x.start)
@@ -75,11 +69,7 @@ pub record Wrong (Legal : List ℕ → Type 0) (text : List ℕ) (c : ℕ) : Typ
   pub none : (l : List ℕ) → Legal l → take c l ≢ take c text
   pub some : (k : ℕ) → k < c → (l : List ℕ) × (Legal l × (take k l ≡ take k text))
 
--- what the readers answer: the letter's kind of lock, or nothing for a letter of none; what a line says, or its wrong column
-abbrev pub KindRead : ℕ → Option LockKind → Type 0
-KindRead letter (Some k) = letter ≡ kind_letter k
-KindRead letter None = (k : LockKind) → letter ≢ kind_letter k
-
+-- what the readers answer: what a line says, or its wrong column
 abbrev pub SetUpRead : List ℕ → Result SetUp WrongColumn → Type 0
 SetUpRead text (Ok x) = FitsSetUp x × (take 13 text ≡ set_up_text x)
 SetUpRead text (Err wrong) = Wrong LegalFirst text wrong.0

@@ -1,13 +1,14 @@
 ghost use Rattle.std.specs.Prelude.{◌≡◌, ◌^◌, ◌<◌};
 ghost use Rattle.columns.specs.Field.{size_of, number_of};
-ghost use Rattle.sheet.specs.Line.{KindRead, SetUpRead, CallRead, OneSetUp, OneCall};
+ghost use Rattle.sheet.specs.Line.{SetUpRead, CallRead, OneSetUp, OneCall};
 
-use crate::line::{Call, SetUp};
+use crate::line::Call;
 use columns::field::{Content, Form};
 use columns::read::read_fields;
 use columns::wrong::WrongColumn;
 use feed::job::Job;
 use kinds::LockKind;
+use kinds::set_up::SetUp;
 
 // The number that a field holds.
 fn number_of(value: Content) -> i32
@@ -20,17 +21,6 @@ fn number_of(value: Content) -> i32
     }
 }
 
-// The kind of lock with that letter.
-fn kind_of(letter: u8) -> Option<LockKind>
-    ensures { KindRead letter result }
-{
-    match char::from(letter) {
-        'F' => Some(LockKind::Fast),
-        'B' => Some(LockKind::OneBit),
-        _ => None,
-    }
-}
-
 // Reads the first line of a sheet: what it says, or its wrong column.
 pub fn read_set_up(text: &[u8]) -> Result<SetUp, WrongColumn>
     ensures { SetUpRead text.now result }
@@ -38,7 +28,9 @@ pub fn read_set_up(text: &[u8]) -> Result<SetUp, WrongColumn>
     let [letter, rest @ ..] = text else {
         return Err(WrongColumn(1));
     };
-    let kind = kind_of(*letter).ok_or(WrongColumn(1))?;
+    let Ok(kind) = LockKind::try_from(*letter) else {
+        return Err(WrongColumn(1));
+    };
     let (stations, start) = read_fields(Form::Natural, rest)?;
     Ok(SetUp {
         kind,

@@ -1,4 +1,4 @@
-use Rattle.sheet.specs.declared.line.SetUp.{SetUp}
+use Rattle.kinds.specs.declared.set_up.SetUp.{SetUp}
 use Rattle.sheet.specs.declared.line.Call.{Call}
 use Rattle.sheet.specs.Line.{set_up_text, call_text, FitsSetUp, FitsCall}
 use Rattle.sheet.proofs.Lines.{one}
