@@ -1,4 +1,3 @@
-pub mod CallsOf
 pub mod RunLines
 pub mod FirstLine
 pub mod OneOutput

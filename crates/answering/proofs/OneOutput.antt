@@ -1,7 +1,8 @@
 -- A sheet has one output: its first line is legal or wrong at one column, and the text after it is read in one way.
 use Rattle.std.proofs.Common.{◌≡◌, ℕ, List, ◌++◌, map, Some, None, Option, sym, refl, ap, ◌∙◌, subst, arith}
+use Rattle.answers.specs.Numbers.{refusal_number}
 use Rattle.answers.specs.declared.Refusal.{Refusal}
-use Rattle.sheet.specs.declared.line.SetUp.{SetUp}
+use Rattle.kinds.specs.declared.set_up.SetUp.{SetUp}
 use Rattle.sheet.specs.Line.{set_up_text, FitsSetUp, LegalFirst, Wrong}
 use Rattle.sheet.proofs.Lines.{one}
 use Rattle.sheet.proofs.SetUpLines.{set_ups}
@@ -9,15 +10,19 @@ use Rattle.sheet.proofs.OneReading.{one_column, legal_not_wrong, one_reading}
 use Rattle.sheet.proofs.LineLengths.{set_up-length}
 use Rattle.columns.proofs.Words.{same_first, same_second}
 use Rattle.output.specs.declared.SheetRefusal.TheVariants.{WrongForm}
-use Rattle.answering.specs.Calls.{to_call}
-use Rattle.output.specs.Output.{sheet_refusal_line}
-use Rattle.answering.specs.Answer.{run_lines, Run, Served, refusal_of, Begins, too_long, wrong_first, refused, run, OneOutput}
+use Rattle.sheet.specs.Calls.{to_call}
+use Rattle.output.specs.Output.{set_up_line, sheet_refusal_line}
+use Rattle.answering.specs.Answer.{run_lines, Run, refusal_of, Begins, too_long, wrong_first, refused, run, OneOutput}
 
--- one output from the set-up's line on
 same_run : (x : SetUp) (later out other : List ℕ) → Run x later out → Run x later other → out ≡ other
 same_run x later out other p q =
-    let (lines, stop) = one_reading 2 later p.lines q.lines p.stop q.stop p.read q.read in
-    p.written ∙ ap (λ xs. run_lines x (map to_call xs) p.stop) lines ∙ ap (λ s. run_lines x (map to_call q.lines) s) stop ∙ sym q.written
+    let (lines, wrong) = one_reading 2 later p.lines q.lines p.wrong q.wrong p.read q.read in
+    p.written ∙ ap (λ xs. run_lines x (map to_call xs) p.wrong) lines ∙ ap (λ w. run_lines x (map to_call q.lines) w) wrong ∙ sym q.written
+
+-- the output from the set-up's line on
+abbrev Served : Option Refusal → SetUp → List ℕ → List ℕ → Type 0
+Served (Some refusal) x later out = out ≡ set_up_line x (refusal_number refusal)
+Served None x later out = Run x later out
 
 same-served : (o : Option Refusal) (x : SetUp) (later out other : List ℕ) → Served o x later out → Served o x later other → out ≡ other
 same-served (Some refusal) x later out other p q = p ∙ sym q
@@ -50,7 +55,7 @@ one_output text out other (too_long h e) (wrong_first g c w d) = absurd (omega a
 one_output text out other (too_long h e) (refused g x l b f r s) = absurd (omega arith)
 one_output text out other (too_long h e) (run g x l b r s) = absurd (omega arith)
 one_output text out other (wrong_first h c w e) (too_long g d) = absurd (omega arith)
-one_output text out other (wrong_first h c w e) (wrong_first g k v d) = e ∙ ap (λ z. sheet_refusal_line (WrongForm 1 z)) (one_column LegalFirst text c k w v) ∙ sym d
+one_output text out other (wrong_first h c w e) (wrong_first g k v d) = e ∙ ap (λ z. sheet_refusal_line (WrongForm (record { line = 1; column = z }))) (one_column LegalFirst text c k w v) ∙ sym d
 one_output text out other (wrong_first h c w e) (refused g x l b f r s) = absurd (not_both text x l c b w)
 one_output text out other (wrong_first h c w e) (run g x l b r s) = absurd (not_both text x l c b w)
 one_output text out other (refused h x l b f r s) (too_long g d) = absurd (omega arith)
