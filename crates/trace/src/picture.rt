@@ -1,27 +1,17 @@
 // The rack at the end: its stations, its board, and who is inside.
-use crate::words::{stage_words, verdict_words};
-use answers::Seen;
+use crate::words::Numbered;
+use answers::{Seen, View};
 use feed::board::Register;
 use lock::Lock;
 use rack::calls::Rack;
 use std::fmt;
 
 fn draw_station(out: &mut impl fmt::Write, station: usize, seen: Seen) -> fmt::Result {
-    let stage = stage_words(seen.stage);
-    let count = seen.count;
-    match seen.last {
-        Some(verdict) => {
-            let number = verdict.number();
-            let words = verdict_words(verdict);
-            writeln!(
-                out,
-                "  station {station}: {stage}, count {count}, last verdict {number}, {words}"
-            )
-        }
-        None => writeln!(
-            out,
-            "  station {station}: {stage}, count {count}, no verdict yet"
-        ),
+    let Seen { stage, count, last } = seen;
+    write!(out, "  station {station}: {stage}, count {count}, ")?;
+    match last {
+        Some(verdict) => writeln!(out, "last {}", Numbered(verdict)),
+        None => out.write_str("no verdict yet\n"),
     }
 }
 
@@ -60,10 +50,14 @@ pub fn draw<L: Lock>(out: &mut impl fmt::Write, rack: &Rack<L>, stations: usize)
             draw_station(out, station, seen)?;
         }
     }
-    let view = rack.board();
-    let setpoint = view.setpoint;
+    let View {
+        setpoint,
+        depth,
+        signer,
+        inside,
+    } = rack.board();
     write!(out, "  setpoint: {setpoint} kg/h\n  pile, newest last:")?;
-    draw_pile(out, rack, view.depth)?;
-    draw_signer(out, view.signer)?;
-    draw_inside(out, view.inside)
+    draw_pile(out, rack, depth)?;
+    draw_signer(out, signer)?;
+    draw_inside(out, inside)
 }

@@ -1,33 +1,27 @@
 // One call told in a line: who, what, the access that it makes, and what came of it.
 use crate::access::{Tells, tell_next};
-use crate::words::{tell_job, tell_refusal, verdict_words};
-use answers::Served;
-use feed::job::{Job, Verdict};
+use crate::words::{Numbered, tell_refusal};
+use answers::{Answer, Served};
+use feed::job::Job;
 use rack::calls::Rack;
 use sheet::line::Call;
 use std::fmt;
 
-fn tell_verdict(out: &mut impl fmt::Write, verdict: Verdict) -> fmt::Result {
-    let words = verdict_words(verdict);
-    let verdict_number = verdict.number();
-    let number = Served::Ended(verdict).number();
-    writeln!(
-        out,
-        "its job ends: verdict {verdict_number}, {words} ({number})"
-    )
-}
+// What a slot did, in words.
+#[derive(Clone, Copy)]
+struct Words(Served);
 
-fn tell_served(out: &mut impl fmt::Write, served: Served) -> fmt::Result {
-    let words = match served {
-        Served::StillTrying => "still trying",
-        Served::NowInside => "now inside",
-        Served::Working => "its job goes on",
-        Served::Ended(verdict) => return tell_verdict(out, verdict),
-        Served::StillLeaving => "still leaving",
-        Served::NowResting => "now at rest",
-    };
-    let number = served.number();
-    writeln!(out, "{words} ({number})")
+impl fmt::Display for Words {
+    fn fmt<W: fmt::Write>(&self, f: &mut fmt::Formatter<W>) -> fmt::Result {
+        match self.0 {
+            Served::StillTrying => f.write_str("still trying"),
+            Served::NowInside => f.write_str("now inside"),
+            Served::Working => f.write_str("its job goes on"),
+            Served::Ended(verdict) => write!(f, "its job ends: {}", Numbered(verdict)),
+            Served::StillLeaving => f.write_str("still leaving"),
+            Served::NowResting => f.write_str("now at rest"),
+        }
+    }
 }
 
 fn tell_order<L: Tells>(
@@ -36,10 +30,9 @@ fn tell_order<L: Tells>(
     station: usize,
     job: Job,
 ) -> fmt::Result {
-    write!(out, "station {station} is ordered to ")?;
-    tell_job(out, job)?;
+    write!(out, "station {station} is ordered to {job}: ")?;
     match rack.order(station, job) {
-        Ok(_) => out.write_str("now trying (0)\n"),
+        Ok(()) => out.write_str("now trying (0)\n"),
         Err(refusal) => tell_refusal(out, refusal),
     }
 }
@@ -53,7 +46,7 @@ fn tell_slot<L: Tells>(
     write!(out, "station {station} makes a slot: ")?;
     tell_next(out, rack, station)?;
     match rack.slot(station) {
-        Ok(served) => tell_served(out, served),
+        Ok(served) => writeln!(out, "{} ({})", Words(served), served.number()),
         Err(refusal) => tell_refusal(out, refusal),
     }
 }

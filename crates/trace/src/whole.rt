@@ -5,6 +5,7 @@ use crate::telling::tell_call;
 use crate::words::{kind_words, tell_refusal};
 use crate::wrong::{tell_too_long, tell_wrong};
 use answers::Refusal;
+use columns::wrong::WrongColumn;
 use fast::Fast;
 use input::LONGEST;
 use kinds::LockKind;
@@ -12,7 +13,7 @@ use lock::Lock;
 use lock::count::WrongStationCount;
 use one_bit::OneBit;
 use rack::calls::Rack;
-use sheet::calls::{Stop, read_calls};
+use sheet::calls::{WrongForm, read_calls};
 use sheet::line::SetUp;
 use sheet::read::read_set_up;
 use std::alloc::Global;
@@ -22,9 +23,12 @@ use std::fmt;
 const LINE: usize = 13;
 
 fn tell_set_up(out: &mut impl fmt::Write, set_up: SetUp) -> fmt::Result {
-    let stations = set_up.stations;
-    let kind = kind_words(set_up.kind);
-    let start = set_up.start;
+    let SetUp {
+        kind,
+        stations,
+        start,
+    } = set_up;
+    let kind = kind_words(kind);
     write!(
         out,
         "line 1: a rack with the {kind} lock, N = {stations}, start {start} kg/h: "
@@ -35,8 +39,7 @@ fn rack_on<L: Lock + Drop>(
     lock: Result<L, WrongStationCount>,
     start: u32,
 ) -> Result<Rack<L>, Refusal> {
-    let lock = lock?;
-    Rack::set_up(lock, start)
+    Rack::set_up(lock?, start)
 }
 
 // Makes and tells the calls of the text, up to its end or to a line of wrong form.
@@ -50,8 +53,8 @@ fn tell_calls<L: Tells>(
     for (line, call) in (2..).zip(&read.calls) {
         tell_call(out, rack, line, *call)?;
     }
-    if let Stop::Wrong { line, column } = read.stop {
-        tell_wrong(out, text, line, column)?;
+    if let Some(wrong) = read.wrong {
+        tell_wrong(out, text, wrong)?;
     }
     Ok(())
 }
@@ -89,8 +92,8 @@ pub fn tell_sheet(out: &mut impl fmt::Write, heap: Global, text: &[u8]) -> anyho
                 LockKind::OneBit => tell_on(out, heap, set_up, OneBit::new(stations), text),
             }
         }
-        Err(column) => {
-            tell_wrong(out, text, 1, column)?;
+        Err(WrongColumn(column)) => {
+            tell_wrong(out, text, WrongForm { line: 1, column })?;
             Ok(())
         }
     }

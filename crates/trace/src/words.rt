@@ -1,8 +1,7 @@
-// Words for stages, verdicts, refusals, jobs and registers.
-use answers::Refusal;
-use feed::job::{Job, Verdict};
+// Words for kinds of lock, verdicts, refusals and registers.
+use answers::{Answer, Refusal};
+use feed::job::Verdict;
 use kinds::LockKind;
-use lock::stage::Stage;
 use std::fmt;
 
 pub fn kind_words(kind: LockKind) -> &'static str {
@@ -12,50 +11,19 @@ pub fn kind_words(kind: LockKind) -> &'static str {
     }
 }
 
-pub fn stage_words(stage: Stage) -> &'static str {
-    match stage {
-        Stage::Rest => "at rest",
-        Stage::Trying => "trying",
-        Stage::Inside => "inside",
-        Stage::Leaving => "leaving",
-    }
-}
+// A verdict, by its number and in words.
+#[derive(Clone, Copy)]
+pub struct Numbered(pub Verdict);
 
-pub fn verdict_words(verdict: Verdict) -> &'static str {
-    match verdict {
-        Verdict::Done => "done",
-        Verdict::PileFull => "the pile is full",
-        Verdict::OverCeiling => "over the ceiling",
-        Verdict::NothingToUndo => "nothing to undo",
-        Verdict::SetpointDiffers => "the setpoint differs",
-    }
-}
-
-fn refusal_words(refusal: Refusal) -> &'static str {
-    match refusal {
-        Refusal::StationCount => "a rack has 1 to 16 stations",
-        Refusal::Start => "a start is at most 400000 kg/h",
-        Refusal::StationNumber => "there is no such station",
-        Refusal::TrimValue => "a trim is -200 to 200 permille, and not 0",
-        Refusal::SignValue => "a signature is for 0 to 400000 kg/h",
-        Refusal::NotResting => "the station is not at rest",
-        Refusal::Resting => "the station is at rest",
+impl fmt::Display for Numbered {
+    fn fmt<W: fmt::Write>(&self, f: &mut fmt::Formatter<W>) -> fmt::Result {
+        let Numbered(verdict) = *self;
+        write!(f, "verdict {}, {verdict}", verdict.number())
     }
 }
 
 pub fn tell_refusal(out: &mut impl fmt::Write, refusal: Refusal) -> fmt::Result {
-    let words = refusal_words(refusal);
-    let number = refusal.number();
-    writeln!(out, "refused, {words} ({number})")
-}
-
-// What a station is ordered to do.
-pub fn tell_job(out: &mut impl fmt::Write, job: Job) -> fmt::Result {
-    match job {
-        Job::Trim(permille) => write!(out, "trim by {permille} permille: "),
-        Job::Undo => out.write_str("undo the newest trim: "),
-        Job::Sign(setpoint) => write!(out, "sign {setpoint} kg/h: "),
-    }
+    writeln!(out, "refused, {refusal} ({})", refusal.number())
 }
 
 // A register by the name that the station which reaches it would use.

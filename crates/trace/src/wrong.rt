@@ -1,6 +1,7 @@
 // The message for a sheet, or a line of one, that is not read.
 use input::LONGEST;
 use output::SheetRefusal;
+use sheet::calls::WrongForm;
 use std::fmt;
 
 // How much of a line is shown.
@@ -52,13 +53,9 @@ fn expected(line: usize, letter: Option<u8>, column: usize) -> &'static str {
 }
 
 // A line of wrong form, with a caret under its wrong column.
-pub fn tell_wrong(
-    out: &mut impl fmt::Write,
-    text: &[u8],
-    line: usize,
-    column: usize,
-) -> fmt::Result {
-    let number = SheetRefusal::WrongForm { line, column }.number();
+pub fn tell_wrong(out: &mut impl fmt::Write, text: &[u8], wrong: WrongForm) -> fmt::Result {
+    let WrongForm { line, column } = wrong;
+    let number = SheetRefusal::WrongForm(wrong).number();
     write!(
         out,
         "line {line}: refused, wrong form at column {column}; the sheet is read no further ({number})\n  "
