@@ -2,6 +2,8 @@
 use crate::busy::Busy;
 use crate::work::{Crew, calls, slots, turns};
 use fast::Fast;
+use kinds::LockKind;
+use kinds::names::NoSuchKind;
 use lock::Lock;
 use one_bit::OneBit;
 use std::env::Args;
@@ -21,24 +23,6 @@ impl fmt::Display for Usage {
 }
 
 impl Error for Usage {}
-
-#[derive(Clone, Copy)]
-enum Kind {
-    Fast,
-    OneBit,
-}
-
-impl FromStr for Kind {
-    type Err = Usage;
-
-    fn from_str(word: &str) -> Result<Kind, Usage> {
-        match word {
-            "fast" => Ok(Kind::Fast),
-            "one-bit" => Ok(Kind::OneBit),
-            _ => Err(Usage),
-        }
-    }
-}
 
 #[derive(Clone, Copy)]
 enum Work {
@@ -78,7 +62,7 @@ impl FromStr for Mode {
 
 #[derive(Clone, Copy)]
 pub struct Plan {
-    kind: Kind,
+    kind: LockKind,
     n: usize,
     mode: Mode,
     count: usize,
@@ -87,7 +71,7 @@ pub struct Plan {
 impl Plan {
     pub fn read(args: &mut Skip<Args>) -> anyhow::Result<Plan> {
         Ok(Plan {
-            kind: word(args)?.parse()?,
+            kind: word(args)?.parse().map_err(|_: NoSuchKind| Usage)?,
             n: word(args)?.parse()?,
             mode: word(args)?.parse()?,
             count: word(args)?.parse()?,
@@ -109,20 +93,17 @@ impl Plan {
 
     fn sum_over<L: Lock + Drop>(self, mut lock: L) -> anyhow::Result<u64> {
         let crew = self.crew();
-        if let Work::Turns = self.mode.work {
-            return Ok(turns(&mut lock, crew));
-        }
-        let mut rack = Busy::set_up(lock)?;
         match self.mode.work {
-            Work::Calls => Ok(calls(&mut rack, crew)),
-            _ => Ok(slots(&mut rack, crew)),
+            Work::Slots => Ok(slots(&mut Busy::set_up(lock)?, crew)),
+            Work::Calls => Ok(calls(&mut Busy::set_up(lock)?, crew)),
+            Work::Turns => Ok(turns(&mut lock, crew)),
         }
     }
 
     pub fn sum(self) -> anyhow::Result<u64> {
         match self.kind {
-            Kind::Fast => self.sum_over(Fast::new(self.n)?),
-            Kind::OneBit => self.sum_over(OneBit::new(self.n)?),
+            LockKind::Fast => self.sum_over(Fast::new(self.n)?),
+            LockKind::OneBit => self.sum_over(OneBit::new(self.n)?),
         }
     }
 }

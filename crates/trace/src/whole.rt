@@ -2,19 +2,19 @@
 use crate::access::Tells;
 use crate::picture::draw;
 use crate::telling::tell_call;
-use crate::words::{kind_words, tell_refusal};
+use crate::words::tell_refusal;
 use crate::wrong::{tell_too_long, tell_wrong};
 use answers::Refusal;
 use columns::wrong::WrongColumn;
 use fast::Fast;
 use input::LONGEST;
 use kinds::LockKind;
+use kinds::set_up::SetUp;
 use lock::Lock;
 use lock::count::WrongStationCount;
 use one_bit::OneBit;
 use rack::calls::Rack;
 use sheet::calls::{WrongForm, read_calls};
-use sheet::line::SetUp;
 use sheet::read::read_set_up;
 use std::alloc::Global;
 use std::fmt;
@@ -28,7 +28,6 @@ fn tell_set_up(out: &mut impl fmt::Write, set_up: SetUp) -> fmt::Result {
         stations,
         start,
     } = set_up;
-    let kind = kind_words(kind);
     write!(
         out,
         "line 1: a rack with the {kind} lock, N = {stations}, start {start} kg/h: "
@@ -80,8 +79,7 @@ fn tell_on<L: Tells + Drop>(
 
 pub fn tell_sheet(out: &mut impl fmt::Write, heap: Global, text: &[u8]) -> anyhow::Result<()> {
     if text.len() > LONGEST {
-        tell_too_long(out)?;
-        return Ok(());
+        return Ok(tell_too_long(out)?);
     }
     match read_set_up(text) {
         Ok(set_up) => {
@@ -92,9 +90,6 @@ pub fn tell_sheet(out: &mut impl fmt::Write, heap: Global, text: &[u8]) -> anyho
                 LockKind::OneBit => tell_on(out, heap, set_up, OneBit::new(stations), text),
             }
         }
-        Err(WrongColumn(column)) => {
-            tell_wrong(out, text, WrongForm { line: 1, column })?;
-            Ok(())
-        }
+        Err(WrongColumn(column)) => Ok(tell_wrong(out, text, WrongForm { line: 1, column })?),
     }
 }

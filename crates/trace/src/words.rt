@@ -1,15 +1,7 @@
-// Words for kinds of lock, verdicts, refusals and registers.
+// Words for verdicts, refusals and registers.
 use answers::{Answer, Refusal};
 use feed::job::Verdict;
-use kinds::LockKind;
 use std::fmt;
-
-pub fn kind_words(kind: LockKind) -> &'static str {
-    match kind {
-        LockKind::Fast => "fast",
-        LockKind::OneBit => "one-bit",
-    }
-}
 
 // A verdict, by its number and in words.
 #[derive(Clone, Copy)]
