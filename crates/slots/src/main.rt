@@ -9,13 +9,9 @@ mod busy;
 mod plan;
 mod work;
 
-fn run(rt: &HostRuntime) -> anyhow::Result<()> {
-    let mut args = env::args(rt)?.skip(1);
+fn main(rt: HostRuntime) -> anyhow::Result<()> {
+    let mut args = env::args(&rt)?.skip(1);
     let sum = Plan::read(&mut args)?.sum()?;
     println!(rt; "{sum}")?;
     Ok(())
-}
-
-fn main(rt: HostRuntime) -> anyhow::Result<()> {
-    run(&rt)
 }

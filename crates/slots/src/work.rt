@@ -70,10 +70,14 @@ fn turn<L: Lock>(lock: &mut L, station: usize) -> u64 {
     lock.turn(station);
     let stage = lock.stage(station);
     match stage {
-        Some(Stage::Rest) => lock.begin(station),
-        Some(Stage::Inside) => lock.end(station),
-        _ => false,
-    };
+        Some(Stage::Rest) => {
+            lock.begin(station);
+        }
+        Some(Stage::Inside) => {
+            lock.end(station);
+        }
+        _ => {}
+    }
     stage.map_or(0, |stage| u64::from(stage.number()))
 }
 

@@ -11,15 +11,11 @@ mod whole;
 mod words;
 mod wrong;
 
-fn run(rt: &HostRuntime) -> anyhow::Result<()> {
+fn main(rt: HostRuntime) -> anyhow::Result<()> {
     let heap = rt.alloc();
     let text = read_sheet(heap, rt.stdin())?;
     let mut out = String::new(heap);
     tell_sheet(&mut out, heap, &text)?;
     rt.print(out.as_str())?;
     Ok(())
-}
-
-fn main(rt: HostRuntime) -> anyhow::Result<()> {
-    run(&rt)
 }
