@@ -1,6 +1,6 @@
 -- How long an output is: each of its lines has 13 bytes, and there is one for each line of the sheet and at most three more.
-use Rattle.std.proofs.Common.{◌≡◌, ℕ, suc, ◌+◌, ◌*◌, ◌≤◌, List, [], ◌∷◌, ◌++◌, map, length, decimal, refl, ap, ◌∙◌, arith, length-append}
-use lib.ListN.{length-map}
+use Rattle.std.proofs.Common.{◌≡◌, ℕ, suc, ◌+◌, ◌*◌, ◌≤◌, List, [], ◌∷◌, ◌++◌, map, length, Some, None, decimal, Option, refl, ap, ◌∙◌, arith, length-append}
+use Rattle.std.proofs.lemmas.List.{length-map}
 use Rattle.std.specs.Fmt.{signed_decimal}
 use Rattle.std.specs.List.{flat_map}
 use Rattle.lock.specs.Meaning.{Meaning}
@@ -19,15 +19,15 @@ use Rattle.one_bit.specs.Meaning.{one_bit_meaning}
 use Rattle.fast.specs.Plan.{fresh as fresh_fast}
 use Rattle.fast.specs.Meaning.{fast_meaning}
 use Rattle.rack.specs.Calls.{fresh_rack}
-use Rattle.sheet.specs.declared.calls.Stop.{Stop}
-use Rattle.sheet.specs.declared.calls.Stop.TheVariants as stop
+use Rattle.sheet.specs.declared.calls.WrongForm.{WrongForm as Place}
 use Rattle.sheet.specs.declared.line.Call.{Call as Line}
-use Rattle.sheet.specs.declared.line.SetUp.{SetUp}
+use Rattle.kinds.specs.declared.set_up.SetUp.{SetUp}
 use Rattle.columns.specs.Field.{line_text}
-use Rattle.sheet.specs.Line.{kind_letter, job_letter, set_up_text, call_text}
+use Rattle.kinds.specs.Names.{kind_letter}
+use Rattle.sheet.specs.Line.{job_letter, set_up_text, call_text}
 use Rattle.columns.proofs.Fields.{line_length}
 use Rattle.sheet.proofs.LineLengths.{set_up-length, call_length}
-use Rattle.answering.specs.Calls.{to_call}
+use Rattle.sheet.specs.Calls.{to_call}
 use Rattle.output.specs.Output.{set_up_line, event_line, end_lines, sheet_refusal_line}
 use Rattle.output.specs.declared.SheetRefusal.{SheetRefusal}
 use Rattle.output.specs.declared.SheetRefusal.TheVariants.{WrongForm, TooLong}
@@ -44,7 +44,7 @@ event-length (Looked i answer) = omega arith
 event-length (Shown view) = omega arith
 
 refusal_length : (f : SheetRefusal) → length (sheet_refusal_line f) ≡ 13
-refusal_length (WrongForm line column) = line_length 88 column (decimal line)
+refusal_length (WrongForm place) = line_length 88 place.column (decimal place.line)
 refusal_length TooLong = line_length 88 0 (decimal 0)
 
 parts : (a b c : List ℕ) → length (a ++ (b ++ c)) ≡ length a + (length b + length c)
@@ -53,11 +53,11 @@ parts a b c = simp length-append
 three : (a b c : List ℕ) → length a ≡ 13 → length b ≡ 13 → length c ≡ 13 → length (a ++ (b ++ c)) ≤ 39
 three a b c p q r = omega (arith, parts a b c)
 
-end_length : (s : Stop) (v : View) → length (end_lines s v) ≤ 39
-end_length stop.End v =
+end_length : (wrong : Option Place) (v : View) → length (end_lines wrong v) ≤ 39
+end_length None v =
     three (line_text 80 0 (signed_decimal v.setpoint)) (line_text 68 0 (signed_decimal v.depth)) (line_text 87 0 (signed_decimal v.signer))
     (line_length 80 0 (signed_decimal v.setpoint)) (line_length 68 0 (signed_decimal v.depth)) (line_length 87 0 (signed_decimal v.signer))
-end_length (stop.Wrong line column) v = let n = line_length 88 column (decimal line) in omega arith
+end_length (Some place) v = let n = line_length 88 place.column (decimal place.line) in omega arith
 
 module _ {X : Type 0} (f : X → List ℕ) where
   at_most : ((x : X) → length (f x) ≤ 13) → (xs : List X) → length (flat_map f xs) ≤ 13 * length xs
@@ -78,12 +78,12 @@ kind_events-length Fast n start calls = events-length fast_meaning (fresh_rack (
 kind_events-length OneBit n start calls = events-length one_bit_meaning (fresh_rack (fresh_one_bit n) start) calls
 
 -- the lines of a run that has as many events as the sheet has calls
-lines_length : (x : SetUp) (es : List Event) (s : Stop) (v : View) (n : ℕ) → length es ≡ n → length (set_up_line x 0 ++ (flat_map event_line es ++ end_lines s v)) ≤ 13 + 13 * n + 39
-lines_length x es s v n e =
+lines_length : (x : SetUp) (es : List Event) (wrong : Option Place) (v : View) (n : ℕ) → length es ≡ n → length (set_up_line x 0 ++ (flat_map event_line es ++ end_lines wrong v)) ≤ 13 + 13 * n + 39
+lines_length x es wrong v n e =
     let first = set_up_line-length x 0 in
     let middle = at_most event_line event-length es in
-    let last = end_length s v in
-    let all = parts (set_up_line x 0) (flat_map event_line es) (end_lines s v) in
+    let last = end_length wrong v in
+    let all = parts (set_up_line x 0) (flat_map event_line es) (end_lines wrong v) in
     omega arith
 
 -- the sheet has a line for its set-up and one for each call, and perhaps more
@@ -99,13 +99,13 @@ run_length : (sheet later output : List ℕ) (x : SetUp) → Begins sheet x late
 run_length sheet later output x b r =
     let calls = map to_call r.lines in
     let n : length calls ≡ length r.lines = length-map r.lines to_call in
-    let out = lines_length x (kind_events x.kind x.stations x.start calls) r.stop (kind_board x.kind x.stations x.start calls) (length r.lines) (kind_events-length x.kind x.stations x.start calls ∙ n) in
+    let out = lines_length x (kind_events x.kind x.stations x.start calls) r.wrong (kind_board x.kind x.stations x.start calls) (length r.lines) (kind_events-length x.kind x.stations x.start calls ∙ n) in
     let text = sheet_length sheet later r.read.rest x r.lines b.split r.read.split in
     let e : length output ≡ _ = ap length r.written in
     omega arith
 
 pub bound_suffices : BoundSuffices
 bound_suffices sheet output (too_long h e) = let n = ap length e ∙ refusal_length TooLong in omega arith
-bound_suffices sheet output (wrong_first h c w e) = let n = ap length e ∙ refusal_length (WrongForm 1 c) in omega arith
+bound_suffices sheet output (wrong_first h c w e) = let n = ap length e ∙ refusal_length (WrongForm (record { line = 1; column = c })) in omega arith
 bound_suffices sheet output (refused h x l b f r e) = let n = ap length e ∙ set_up_line-length x (refusal_number f) in omega arith
 bound_suffices sheet output (run h x l b r s) = let n = run_length sheet l output x b s in omega arith

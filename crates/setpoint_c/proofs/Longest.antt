@@ -4,9 +4,9 @@ use Rattle.std.proofs.Common.{◌≡◌, ℕ, List, [], ◌∷◌, ◌++◌, get
 use Rattle.std.proofs.lemmas.Fmt.{decimal_digit}
 use Rattle.kinds.specs.declared.LockKind.{LockKind}
 use Rattle.kinds.specs.declared.LockKind.TheVariants.{Fast, OneBit}
-use Rattle.sheet.specs.declared.line.SetUp.{SetUp}
+use Rattle.kinds.specs.declared.set_up.SetUp.{SetUp}
 use Rattle.columns.specs.Field.{justified}
-use Rattle.sheet.specs.Line.{kind_letter}
+use Rattle.kinds.specs.Names.{kind_letter}
 use Rattle.columns.proofs.Justified.{justified-length}
 use Rattle.columns.proofs.Words.{same_second}
 use Rattle.output.specs.declared.SheetRefusal.TheVariants.{WrongForm, TooLong}
@@ -27,7 +27,7 @@ abbrev value_text : List ℕ → List ℕ
 value_text digits = justified 8 digits ++ (10 ∷ [])
 
 -- the value of the refusal is 0, and that of a wrong first line 1
-no_first : (column : ℕ) → sheet_refusal_line (WrongForm 1 column) ≡ sheet_refusal_line TooLong → ⊥
+no_first : (column : ℕ) → sheet_refusal_line (WrongForm (record { line = 1; column = column })) ≡ sheet_refusal_line TooLong → ⊥
 no_first column e =
     let fields : justified 3 (decimal column) ++ value_text (decimal 1) ≡ justified 3 (decimal 0) ++ value_text (decimal 0) = cc in
     let values = same_second 3 (justified 3 (decimal column)) (justified 3 (decimal 0)) (value_text (decimal 1)) (value_text (decimal 0)) (justified-length 3 (decimal column)) (justified-length 3 (decimal 0)) fields in

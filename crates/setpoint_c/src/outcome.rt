@@ -1,24 +1,20 @@
 ghost use Rattle.std.specs.Prelude.{◌≡◌};
 ghost use Rattle.setpoint_c.specs.Outcomes.{outcome_number};
 
-// What came of a sheet for a caller with a buffer.
-#[derive(Clone, Copy)]
+// What came of a sheet for a caller with a buffer. An outcome crosses as its number.
+#[derive(Clone, Copy, PartialEq, Eq, Debug)]
 pub(crate) enum Outcome {
     // the output stands at the front of the buffer
-    Written,
+    Written = 0,
     // the output is longer than the buffer
-    TooSmall,
-    NoMemory,
+    TooSmall = 1,
+    NoMemory = 2,
 }
 
 impl Outcome {
     pub(crate) fn number(self) -> u32
         ensures { result ≡ outcome_number self }
     {
-        match self {
-            Outcome::Written => 0,
-            Outcome::TooSmall => 1,
-            Outcome::NoMemory => 2,
-        }
+        self as u32
     }
 }
