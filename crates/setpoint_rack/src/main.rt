@@ -5,13 +5,9 @@ use answering::answer::answer;
 use input::read_sheet;
 use std::io::Write;
 
-fn run(rt: &HostRuntime) -> anyhow::Result<()> {
+fn main(rt: HostRuntime) -> anyhow::Result<()> {
     let text = read_sheet(rt.alloc(), rt.stdin())?;
     let output = answer(rt.alloc(), &text)?;
     rt.stdout().write_all(&output)?;
     Ok(())
-}
-
-fn main(rt: HostRuntime) -> anyhow::Result<()> {
-    run(&rt)
 }

@@ -12,22 +12,17 @@ fn agrees<R: Files + AllocGlobal>(rt: &R, number: u32) -> anyhow::Result<bool> {
     let heap = rt.alloc();
     let sheet = fs::read(rt, format!(in heap; "sheets/{number}.sheet")?.as_str())?;
     let expected = fs::read(rt, format!(in heap; "sheets/{number}.answers")?.as_str())?;
-    let answers = answer(heap, &sheet)?;
-    Ok(answers.as_slice() == expected.as_slice())
+    Ok(answer(heap, &sheet)? == expected)
 }
 
-fn run(rt: &HostRuntime) -> anyhow::Result<()> {
+fn main(rt: HostRuntime) -> anyhow::Result<()> {
     let mut differ = 0u32;
     for number in 0..SHEETS {
-        if !agrees(rt, number)? {
+        if !agrees(&rt, number)? {
             differ = differ.saturating_add(1);
             println!(rt; "sheet {number} differs")?;
         }
     }
     println!(rt; "{SHEETS} sheets, {differ} differ")?;
     Ok(())
-}
-
-fn main(rt: HostRuntime) -> anyhow::Result<()> {
-    run(&rt)
 }
