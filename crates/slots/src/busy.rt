@@ -34,10 +34,10 @@ impl<L: Lock + Drop> Busy<L> {
 
 impl<L: Lock> Busy<L> {
     // Gives the station the next job.
-    pub fn order(&mut self, station: usize) -> u64 {
+    pub fn order(&mut self, station: usize) -> u8 {
         let answer = self.rack.order(station, self.next);
         self.next = job_after(self.next);
-        u64::from(answer.number())
+        answer.number()
     }
 
     // One slot, and a new order for a station that comes to rest.
@@ -47,21 +47,23 @@ impl<L: Lock> Busy<L> {
             Ok(Served::NowResting) => self.order(station),
             _ => 0,
         };
-        ordered.wrapping_add(u64::from(answer.number()))
+        u64::from(answer.number()) + u64::from(ordered)
     }
 
     // What a look at the station and a look at the board show, summed.
     pub fn shown(&self, station: usize) -> u64 {
         let seen = match self.rack.look(station) {
-            Ok(seen) => u64::from(seen.stage.number())
-                .wrapping_add(u64::from(seen.count))
-                .wrapping_add(u64::from(seen.last_number())),
+            Ok(seen) => {
+                u64::from(seen.stage.number())
+                    + u64::from(seen.count)
+                    + u64::from(seen.last_number())
+            }
             Err(refusal) => u64::from(refusal.number()),
         };
         let view = self.rack.board();
-        seen.wrapping_add(u64::from(view.setpoint.unsigned_abs()))
-            .wrapping_add(u64::from(view.depth.unsigned_abs()))
-            .wrapping_add(u64::from(view.signer.unsigned_abs()))
-            .wrapping_add(view.inside_number() as u64)
+        let board = u64::from(view.setpoint.unsigned_abs())
+            + u64::from(view.depth.unsigned_abs())
+            + u64::from(view.signer.unsigned_abs());
+        (seen + board).wrapping_add(view.inside_number() as u64)
     }
 }

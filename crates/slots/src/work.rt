@@ -46,8 +46,7 @@ fn mixed(sum: u64, answer: u64) -> u64 {
 
 // Every station is ordered once.
 fn order_all<L: Lock>(rack: &mut Busy<L>, crew: Crew) -> u64 {
-    crew.stations()
-        .fold(0, |sum, station| mixed(sum, rack.order(station)))
+    crew.stations().fold(0, |sum, station| mixed(sum, u64::from(rack.order(station))))
 }
 
 // Slots of a rack.
