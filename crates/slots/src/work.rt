@@ -26,6 +26,7 @@ impl Crew {
     }
 
     // The stations have their turns in order, again and again. What one turn adds to the sum is told by `turn`.
+    // This is a loop and no `cycle`, which would add its own instructions to those that are measured.
     fn take_turns<F: FnMut(u64, usize) -> u64>(self, start: u64, mut turn: F) -> u64
         requires { F.IsAlwaysCallable turn }
     {
