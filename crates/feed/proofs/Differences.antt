@@ -1,7 +1,7 @@
 -- The arithmetic of a trim: nothing saturates, and the new setpoint is not negative.
-use Rattle.std.proofs.Common.{◌≡◌, ℕ, zero, suc, ◌+◌, ◌-◌, ◌*◌, ◌/◌, ◌^◌, ◌<◌, ◌≤◌, ltb, ℤ, pos, negsuc, ◌+ℤ◌, ◌*ℤ◌, neg_ℤ, nat_abs, refl, ap, ◌∙◌, mul-le-mul, arith}
+use Rattle.std.proofs.Common.{◌≡◌, ℕ, suc, ◌+◌, ◌-◌, ◌*◌, ◌/◌, ◌^◌, ◌<◌, ◌≤◌, ℤ, pos, negsuc, ◌+ℤ◌, ◌*ℤ◌, nat_abs, refl, ap, ◌∙◌, mul-le-mul, arith}
 use Rattle.std.specs.Int.{saturate_to_bits}
-use Rattle.std.proofs.lemmas.Bool.{le-ltb, cond-false}
+use Rattle.std.proofs.lemmas.Int.{ints}
 use Rattle.feed.specs.Job.{ceiling, thousandth}
 use Rattle.feed.specs.Laws.{ComputedExactly}
 use Rattle.feed.specs.Task.{tested, judged}
@@ -11,17 +11,9 @@ pub unsaturated : (z : ℤ) → nat_abs z < 2 ^ 31 → saturate_to_bits 31 z ≡
 unsaturated (pos x) h = ap pos (omega arith)
 unsaturated (negsuc x) h = ap negsuc (omega arith)
 
-abs_negated : (x : ℕ) → nat_abs (neg_ℤ (pos x)) ≡ x
-abs_negated zero = refl
-abs_negated (suc x) = refl
-
 abs_product : (a : ℕ) (p : ℤ) → nat_abs (pos a *ℤ p) ≡ a * nat_abs p
 abs_product a (pos q) = refl
-abs_product a (negsuc q) = abs_negated (a * suc q)
-
-minus : (a y : ℕ) → y ≤ a → pos a +ℤ neg_ℤ (pos y) ≡ pos (a - y)
-minus a zero h = ap pos (omega arith)
-minus a (suc y) h = cond-false (ltb a (suc y)) _ _ (le-ltb a (suc y) h)
+abs_product a (negsuc q) = omega (arith, ints)
 
 -- the product of a setpoint of a board and a trim that may be ordered is at most 80,000,000, far from the bounds of 32 bits
 pub computed_exactly : ComputedExactly
@@ -32,7 +24,7 @@ computed_exactly a p h l =
 -- the setpoint a moved by a thousandth of at most two hundred times itself
 moved : (a : ℕ) (x : ℤ) → nat_abs x ≤ a * 200 → (to : ℕ) × (pos a +ℤ thousandth x ≡ pos to) × (to ≤ a + a)
 moved a (pos x) h = (a + x / 1000, refl, omega arith)
-moved a (negsuc x) h = (a - suc x / 1000, minus a (suc x / 1000) (omega arith), omega arith)
+moved a (negsuc x) h = (a - suc x / 1000, omega (arith, ints), omega arith)
 
 -- a trim by p of the setpoint a: the setpoint that it would write, and the tests on it
 pub record Trimmed (a : ℕ) (p : ℤ) : Type 0 where
