@@ -12,7 +12,7 @@ impl fmt::Display for WrongColumn {
     ghost output = { λ wrong. Some (wrong_column_text wrong) };
 
     fn fmt<W: fmt::Write>(&self, f: &mut fmt::Formatter<W>) -> fmt::Result {
-        write!(f, "column {} is wrong", self.0)
+        write!(f, "wrong form at column {}", self.0)
     }
 }
 

@@ -1,5 +1,5 @@
 -- The lines of the output: those of the calls have the letter and the station of the call.
-use Rattle.std.specs.Prelude.{ℕ, List, [], ◌++◌, Some, None, decimal, Option}
+use Rattle.std.specs.Prelude.{ℕ, List, [], ◌++◌, Some, None, decimal, Option, codes}
 use Rattle.std.specs.Fmt.{signed_decimal}
 use Rattle.answers.specs.Numbers.{order_number, slot_number}
 use Rattle.answers.specs.declared.View.{View}
@@ -10,6 +10,7 @@ use Rattle.kinds.specs.declared.set_up.SetUp.{SetUp}
 use Rattle.columns.specs.Field.{line_text}
 use Rattle.kinds.specs.Names.{kind_letter}
 use Rattle.sheet.specs.Line.{job_letter}
+use Rattle.sheet.specs.Words.{wrong_form_text}
 use Rattle.output.specs.declared.SheetRefusal.{SheetRefusal}
 use Rattle.output.specs.declared.SheetRefusal.TheVariants.{WrongForm, TooLong}
 
@@ -27,6 +28,10 @@ event_line (Shown view) = []
 abbrev pub sheet_refusal_number : SheetRefusal → ℕ
 sheet_refusal_number (WrongForm place) = 8
 sheet_refusal_number TooLong = 9
+
+abbrev pub sheet_refusal_words : SheetRefusal → List ℕ
+sheet_refusal_words (WrongForm place) = wrong_form_text place
+sheet_refusal_words TooLong = codes "a sheet has at most 65000 bytes"
 
 -- 'X' with the wrong column and its line; with 0 and 0 for a sheet that is too long
 abbrev pub sheet_refusal_line : SheetRefusal → List ℕ

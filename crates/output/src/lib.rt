@@ -1,11 +1,11 @@
 // The lines of the output: those of the set-up and of each call, in the columns of the sheet, and those of the end.
 #![tactic(auto)]
 
-ghost use Rattle.std.specs.Prelude.{◌≡◌, ◌++◌, OnOk, decimal};
+ghost use Rattle.std.specs.Prelude.{◌≡◌, ◌++◌, OnOk, Some, decimal};
 ghost use Rattle.std.specs.List.{flat_map};
 ghost use Rattle.columns.specs.Field.{line_text};
 ghost use Rattle.sheet.specs.Line.{job_letter};
-ghost use Rattle.output.specs.Output.{set_up_line, event_line, sheet_refusal_number, sheet_refusal_line, board_lines, end_lines};
+ghost use Rattle.output.specs.Output.{set_up_line, event_line, sheet_refusal_number, sheet_refusal_words, sheet_refusal_line, board_lines, end_lines};
 
 use answers::{Answer, View};
 use columns::field::Content;
@@ -15,6 +15,8 @@ use kinds::set_up::SetUp;
 use runs::events::Event;
 use sheet::calls::WrongForm;
 use std::alloc::AllocError;
+use std::error::Error;
+use std::fmt;
 
 // Why a sheet, or the rest of it, is not read.
 #[derive(Clone, Copy, PartialEq, Eq, Debug)]
@@ -45,6 +47,19 @@ impl SheetRefusal {
         }
     }
 }
+
+impl fmt::Display for SheetRefusal {
+    ghost output = { λ refusal. Some (sheet_refusal_words refusal) };
+
+    fn fmt<W: fmt::Write>(&self, f: &mut fmt::Formatter<W>) -> fmt::Result {
+        match self {
+            SheetRefusal::WrongForm(wrong) => write!(f, "{wrong}"),
+            SheetRefusal::TooLong => f.write_str("a sheet has at most 65000 bytes"),
+        }
+    }
+}
+
+impl Error for SheetRefusal {}
 
 fn letter_of_job(job: Job) -> u8
     ensures { result ≡ job_letter job }

@@ -1,10 +1,13 @@
-ghost use Rattle.std.specs.Prelude.{IfOk};
+ghost use Rattle.std.specs.Prelude.{IfOk, Some};
 ghost use Rattle.sheet.specs.Sheet.{Later, OneReading};
+ghost use Rattle.sheet.specs.Words.{wrong_form_text};
 
 use crate::line::Call;
 use crate::read::read_call;
 use columns::wrong::WrongColumn;
 use std::alloc::{AllocError, Global};
+use std::error::Error;
+use std::fmt;
 
 // A line of wrong form: its number on the sheet, and its wrong column.
 #[derive(Clone, Copy, PartialEq, Eq, Debug)]
@@ -12,6 +15,16 @@ pub struct WrongForm {
     pub line: usize,
     pub column: usize,
 }
+
+impl fmt::Display for WrongForm {
+    ghost output = { λ wrong. Some (wrong_form_text wrong) };
+
+    fn fmt<W: fmt::Write>(&self, f: &mut fmt::Formatter<W>) -> fmt::Result {
+        write!(f, "line {}: {}", self.line, WrongColumn(self.column))
+    }
+}
+
+impl Error for WrongForm {}
 
 // The calls of a text, up to its end or to a line of wrong form.
 #[derive(Drop)]
