@@ -12,7 +12,7 @@ use Rattle.columns.specs.Stops.{Stops}
 use Rattle.columns.proofs.Justified.{justified-length}
 use Rattle.columns.proofs.Columns.{stops_as}
 use Rattle.columns.proofs.Words.{Joined, stops_first, stops_second}
-use Rattle.columns.proofs.Missing.{columns, same-columns, columns_are, Positive, Nonzero, stops_filled, whole_filled}
+use Rattle.columns.proofs.Missing.{columns, same-columns, Positive, Nonzero, stops_filled, whole_filled}
 
 -- no byte of them is 0
 joined : (u v : List ℕ) → Nonzero u → Nonzero v → Nonzero (u ++ v)
@@ -80,7 +80,7 @@ nonzero_fields f l (s, (v, (h, (g, e)))) =
 no_feed : (b : ℕ) → (b ≡ 10 → ⊥) → Stops End (b ∷ []) 0
 no_feed b ne = record { goes = (10 ∷ [], (refl, refl)); ends = λ l a e. ne (let h : take 1 (10 ∷ []) ≡ b ∷ [] = rw a at e in let q : b ≡ 10 = cc in q) }
 
-module _ (f : Form) (r rest : List ℕ) (size : length r ≡ 12) (same : (k : ℕ) → k < 12 → get_or r k 0 ≡ get_or rest k 0) where
+module _ (f : Form) (r rest : List ℕ) (same : (k : ℕ) → k < 12 → get_or r k 0 ≡ get_or rest k 0) where
   all_same : columns 12 0 r ≡ columns 12 0 rest
   all_same = same-columns r rest 12 same 12 0 (lit≤ tt)
 
@@ -94,23 +94,17 @@ module _ (f : Form) (r rest : List ℕ) (size : length r ≡ 12) (same : (k : �
 
   -- what the readers of the two fields say
   abbrev Station : Result Content WrongColumn → Type 0
-  Station x = FieldRead Natural 2 (take 3 r) x
+  Station x = FieldRead Natural 2 (columns 3 0 r) x
 
   abbrev Value : Result Content WrongColumn → Type 0
-  Value x = FieldRead f 5 (take 8 (drop 3 r)) x
-
-  of_station : (x : Result Content WrongColumn) → Station x → FieldRead Natural 2 (columns 3 0 r) x
-  of_station x h = subst (λ t. FieldRead Natural 2 t x) (columns_are 3 0 r (omega arith)) h
-
-  of_value : (x : Result Content WrongColumn) → Value x → FieldRead f 5 (columns 8 3 r) x
-  of_value x h = subst (λ t. FieldRead f 5 t x) (columns_are 8 3 r (omega arith)) h
+  Value x = FieldRead f 5 (columns 8 3 r) x
 
   in_station : (d : ℕ) → Stops (Joined (FieldText f 8) End) tail d → (x : Content) → Station (Ok x) → Stops (Parts f) (columns 12 0 r) (3 + d)
-  in_station d st x h = stops_second (FieldText Natural 3) (Joined (FieldText f 8) End) 3 (sized_field Natural 3) (columns 3 0 r) tail d (x, of_station (Ok x) h) st
+  in_station d st x h = stops_second (FieldText Natural 3) (Joined (FieldText f 8) End) 3 (sized_field Natural 3) (columns 3 0 r) tail d (x, h) st
 
   pub station_wrong : (c : WrongColumn) → Station (Err c) → FieldsRead f rest (Err c)
   station_wrong c s =
-      let (d, wrong) = of_station (Err c) s in
+      let (d, wrong) = s in
       let zero_text : List ℕ = justified 8 (decimal 0) in (
         d,
         (
@@ -126,7 +120,7 @@ module _ (f : Form) (r rest : List ℕ) (size : length r ≡ 12) (same : (k : �
 
   pub value_wrong : (x : Content) → Station (Ok x) → (c : WrongColumn) → Value (Err c) → FieldsRead f rest (Err c)
   value_wrong x g c v =
-      let (d, wrong) = of_value (Err c) v in (
+      let (d, wrong) = v in (
         3 + d,
         (
           omega arith,
@@ -147,21 +141,21 @@ module _ (f : Form) (r rest : List ℕ) (size : length r ≡ 12) (same : (k : �
         (
           lit< tt,
           from_parts 11 (lit< tt)
-              (in_station 8 (stops_second (FieldText f 8) End 8 (sized_field f 8) (columns 8 3 r) (columns 1 11 r) 0 (y, of_value (Ok y) v) (no_feed (get_or r 11 0) ne)) x g),
+              (in_station 8 (stops_second (FieldText f 8) End 8 (sized_field f 8) (columns 8 3 r) (columns 1 11 r) 0 (y, v) (no_feed (get_or r 11 0) ne)) x g),
         ),
       ),
     )
 
     natural : (shown x ≡ decimal (size_of x)) × (size_of x < 1000)
-    natural = station_natural x (of_station (Ok x) g).0
+    natural = station_natural x g.0
 
     read : get_or r 11 0 ≡ 10 → columns 12 0 r ≡ fields_text (size_of x) (shown y)
     read e =
-        let a : columns 3 0 r ≡ justified 3 (decimal (size_of x)) = (of_station (Ok x) g).1 ∙ ap (justified 3) natural.0 in
-        ap (λ u. u ++ tail) a ∙ ap (λ u. justified 3 (decimal (size_of x)) ++ (u ++ columns 1 11 r)) (of_value (Ok y) v).1 ∙ ap (λ b. justified 3 (decimal (size_of x)) ++ (justified 8 (shown y) ++ (b ∷ []))) e
+        let a : columns 3 0 r ≡ justified 3 (decimal (size_of x)) = g.1 ∙ ap (justified 3) natural.0 in
+        ap (λ u. u ++ tail) a ∙ ap (λ u. justified 3 (decimal (size_of x)) ++ (u ++ columns 1 11 r)) v.1 ∙ ap (λ b. justified 3 (decimal (size_of x)) ++ (justified 8 (shown y) ++ (b ∷ []))) e
 
     pub all_right : get_or r 11 0 ≡ 10 → FieldsRead f rest (Ok (size_of x, y))
     all_right e =
-        let fits = (of_value (Ok y) v).0 in
+        let fits = v.0 in
         let t : FieldsText f (columns 12 0 rest) = (size_of x, (y, (natural.1, (fits, sym all_same ∙ read e)))) in
         (natural.1, (fits, whole_filled (FieldsText f) 12 (sized_fields f) (nonzero_fields f) rest t ∙ sym all_same ∙ read e))

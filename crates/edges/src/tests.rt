@@ -26,18 +26,18 @@ fn set_up_number<L: Lock + Drop>(lock: Result<L, WrongStationCount>, start: u32)
     rack_on(lock, start).map(|_| ()).number()
 }
 
-// Orders a job of station 1 and serves the station until it rests: the verdict, if the job comes to one.
+// Orders a job of station 1 and serves the station until it rests: the verdict, if it comes to one and to rest.
 fn verdict<L: Lock>(rack: &mut Rack<L>, job: Job) -> Result<Option<Verdict>, Refusal> {
     rack.order(1, job)?;
     let mut verdict = None;
     for _ in 0..30 {
         match rack.slot(1)? {
             Served::Ended(end) => verdict = Some(end),
-            Served::NowResting => break,
+            Served::NowResting => return Ok(verdict),
             _ => {}
         }
     }
-    Ok(verdict)
+    Ok(None)
 }
 
 #[test]

@@ -39,9 +39,9 @@ impl TryFrom<u8> for LockKind {
     ghost try_from_gives = { KindRead };
 
     fn try_from(letter: u8) -> Result<LockKind, NoSuchKind> {
-        match letter {
-            b'F' => Ok(LockKind::Fast),
-            b'B' => Ok(LockKind::OneBit),
+        match char::from(letter) {
+            'F' => Ok(LockKind::Fast),
+            'B' => Ok(LockKind::OneBit),
             _ => Err(NoSuchKind),
         }
     }

@@ -1,4 +1,3 @@
-use Rattle.std.proofs.Common.{rules}
 use Rattle.std.proofs.lemmas.Result.{err_from_is_err_and}
 use Rattle.columns.proofs.Fields.{station_wrong, value_wrong, end_wrong, all_right}
 use Rattle.columns.proofs.read.read_fields.Goals as goal
@@ -6,16 +5,16 @@ use Rattle.columns.proofs.read.read_fields.Goals as goal
 pub returns-in_err-station : goal.returns-in_err-station
 returns-in_err-station c =
     let p = err_from_is_err_and c.from_residual.result c.from_residual.ensures.1 in
-    rw (p.1, p.2) (station_wrong c.args.form c.filled-columns.result c.args.rest.now (search rules) c.filled-columns.ensures _ c.in_err-station.ensures)
+    rw (p.1, p.2) (station_wrong c.args.form c.filled.result c.args.rest.now c.filled.ensures _ c.in_err-station.ensures)
 
 pub returns-in_err-value : goal.returns-in_err-value
 returns-in_err-value c =
     let p = err_from_is_err_and c.from_residual-in_err-value.result c.from_residual-in_err-value.ensures.1 in
-    rw (p.1, p.2) (value_wrong c.args.form c.filled-columns.result c.args.rest.now (search rules) c.filled-columns.ensures _ c.in_ok-station.ensures _ c.in_err-value.ensures)
+    rw (p.1, p.2) (value_wrong c.args.form c.filled.result c.args.rest.now c.filled.ensures _ c.in_ok-station.ensures _ c.in_err-value.ensures)
 
-pub returns-then-columns-ne10 : goal.returns-then-columns-ne10
-returns-then-columns-ne10 c =
-    end_wrong c.args.form c.filled-columns.result c.args.rest.now (search rules) c.filled-columns.ensures _ _ c.in_ok-station.ensures c.in_ok-value.ensures c.if-columns-ne10.true
+pub returns-then-end-ne10 : goal.returns-then-end-ne10
+returns-then-end-ne10 c =
+    end_wrong c.args.form c.filled.result c.args.rest.now c.filled.ensures _ _ c.in_ok-station.ensures c.in_ok-value.ensures c.if-end-ne10.true
 
 pub returns : goal.returns
-returns c = rw c.size.ensures (all_right c.args.form c.filled-columns.result c.args.rest.now (search rules) c.filled-columns.ensures _ _ c.in_ok-station.ensures c.in_ok-value.ensures c.if-columns-ne10.false)
+returns c = rw c.size.ensures (all_right c.args.form c.filled.result c.args.rest.now c.filled.ensures _ _ c.in_ok-station.ensures c.in_ok-value.ensures c.if-end-ne10.false)
