@@ -26,7 +26,7 @@ impl Solo {
         Solo { only: Stage::Rest }
     }
 
-    // Takes the only station from one stage to another, if that is asked of it there. Says whether it did.
+    // Takes the only station from one stage to another, if it is asked of that station, and finds it at the first. Says whether it did.
     fn go(&mut self, station: usize, from: Stage, to: Stage) -> bool
         ensures goes { (station ≡ 1) × (self.old.only ≡ from) → (self.new ≡ record { only = to }) × (result ≡ true) }
         ensures stays { ((station ≡ 1) × (self.old.only ≡ from) → ⊥) → (self.new ≡ self.old) × (result ≡ false) }
