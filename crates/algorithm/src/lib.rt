@@ -65,7 +65,8 @@ pub trait Algorithm: Copy {
     ghost starts: { (n : ℕ) → 1 ≤ n → n ≤ 16 → Fresh (meaning_by plan Self.Registers.value_of Self.Registers.with_value claims) n (fresh plan n) };
 }
 
-// What belongs to station i has the index i - 1.
+// A lock. What belongs to station i has the index i - 1. A lock takes no memory from a heap and is made for a number of
+// stations that no type knows, so there is room for 16, and the number stands beside them.
 #[derive(Drop)]
 pub struct PlaceLock<P, M> {
     n: usize,

@@ -110,6 +110,7 @@ pub enum Served {
 impl Answer for Served {
     ghost number_of = { served_number };
 
+    // A match and no cast, since one of the answers has a verdict.
     fn number(&self) -> u8 {
         match self {
             Served::StillTrying => 10,

@@ -18,6 +18,7 @@ fn filled(rest: &[u8]) -> [u8; 12]
 pub fn read_fields(form: Form, rest: &[u8]) -> Result<(usize, Content), WrongColumn>
     ensures { FieldsRead form rest.now result }
 {
+    // Each column has its name.
     let [hundreds, tens, ones, v1, v2, v3, v4, v5, v6, v7, v8, end] = filled(rest);
     let station = read_field(Form::Natural, 2, &[hundreds, tens, ones])?;
     let value = read_field(form, 5, &[v1, v2, v3, v4, v5, v6, v7, v8])?;

@@ -4,7 +4,8 @@ ghost use Rattle.columns.specs.Field.{shown, written, line_text};
 
 use crate::field::Content;
 
-// The last N columns of a content, filled from the last one on.
+// The last N columns of a content, filled from the last one on. They are counted, since a proof knows nothing of what is
+// written through an adapter of `iter_mut`.
 fn columns_of<const N: usize>(content: Content) -> [u8; N]
     ensures { result ≡ written N content }
 {

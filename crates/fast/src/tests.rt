@@ -7,7 +7,7 @@ use std::test::Fail;
 // Stations 1 and 2 both find Y free. 1 has its number in X and is inside, though 2 has the last word in Y; 2 then waits for the flag of 1.
 #[test]
 fn the_one_in_x_goes_first(rt: HostRuntime) -> Result<(), Fail> {
-    let mut lock = Fast::new(3).ok().ok_or("no lock")?;
+    let mut lock = Fast::new(3)?;
     assert!(rt; lock.begin(1) && lock.begin(2) && lock.begin(3));
     for i in [1, 2, 3, 2, 1, 1, 2, 1, 2] {
         assert!(rt; lock.turn(i));

@@ -22,7 +22,8 @@ pub enum LockKind {
     OneBit,
 }
 
-// A rack with a lock of one of the kinds after some calls, with what came of each.
+// A rack with a lock of one of the kinds after some calls, with what came of each. The kinds are two and known, and a rack stands
+// here without a box of its own.
 #[derive(Drop)]
 pub enum KindRan {
     OnFast(Ran<Fast>),

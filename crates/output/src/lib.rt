@@ -26,6 +26,7 @@ pub enum SheetRefusal {
 }
 
 impl SheetRefusal {
+    // A match and no cast, since one of the refusals has a line and a column.
     pub fn number(self) -> u8
         ensures { result ≡ sheet_refusal_number self }
     {
@@ -61,6 +62,7 @@ impl fmt::Display for SheetRefusal {
 
 impl Error for SheetRefusal {}
 
+// A function and no `From`, since neither of the types is declared here.
 fn letter_of_job(job: Job) -> u8
     ensures { result ≡ job_letter job }
 {

@@ -21,7 +21,7 @@ pub struct Station {
     last: Option<Verdict>,
 }
 
-// What belongs to station i has the index i - 1.
+// What belongs to station i has the index i - 1. A rack takes no memory from a heap: there is room for 16 stations.
 #[derive(Drop)]
 pub struct Rack<L> {
     lock: L,

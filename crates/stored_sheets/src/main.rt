@@ -16,6 +16,7 @@ fn agrees<R: Files + AllocGlobal>(rt: &R, number: u32) -> anyhow::Result<bool> {
 }
 
 fn main(rt: HostRuntime) -> anyhow::Result<()> {
+    // A loop, since each sheet may fail to be read, and one that differs is told at once.
     let mut differ = 0u32;
     for number in 0..SHEETS {
         if !agrees(&rt, number)? {
