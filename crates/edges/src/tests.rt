@@ -134,7 +134,7 @@ fn under_the_fast_lock_the_second_waits_for_the_flag(rt: HostRuntime) -> Result<
         assert!(rt; lock.turn(station));
     }
     assert_eq!(rt; lock.stage(2), Some(Stage::Trying));
-    assert!(rt; matches!(lock.next_access(2), Some(Access::Read(Register::Flag(1)))));
+    assert_eq!(rt; lock.next_access(2), Some(Access::Read(Register::Flag(1))));
     Ok(())
 }
 

@@ -2,7 +2,7 @@ use answers::{Refusal, Seen, Served, View};
 use feed::job::Job;
 
 // A call on a rack that is set up, with any arguments.
-#[derive(Clone, Copy)]
+#[derive(Clone, Copy, PartialEq, Eq, Debug)]
 pub enum Call {
     Order(usize, Job),
     Slot(usize),
@@ -11,7 +11,7 @@ pub enum Call {
 }
 
 // A call with its answer.
-#[derive(Clone, Copy)]
+#[derive(Clone, Copy, PartialEq, Eq, Debug)]
 pub enum Event {
     Ordered(usize, Job, Result<(), Refusal>),
     Slotted(usize, Result<Served, Refusal>),
