@@ -1,10 +1,12 @@
 ghost use Rattle.std.specs.Prelude.{◌≡◌};
 ghost use Rattle.algorithm.specs.Flags.{all_down, flag_in, with_flag};
 
-// A flag for each station. That of station i has the index i - 1; a number outside 1 to 16 has none.
+use lock::count::MOST_STATIONS;
+
+// A flag for each station. That of station i has the index i - 1; a number outside 1 to the most has none.
 #[derive(Clone, Copy)]
 pub struct Flags {
-    raised: [bool; 16],
+    raised: [bool; MOST_STATIONS],
 }
 
 impl Flags {
@@ -12,7 +14,7 @@ impl Flags {
         ensures { result ≡ all_down }
     {
         Flags {
-            raised: [false; 16],
+            raised: [false; MOST_STATIONS],
         }
     }
 

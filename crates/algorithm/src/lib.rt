@@ -2,17 +2,18 @@
 // station goes from there follows from the place and the value that went over the bus.
 #![tactic(auto)]
 
-ghost use Rattle.std.specs.Prelude.{◌≡◌, ℕ, ◌≤◌, Option};
+ghost use Rattle.std.specs.Prelude.{◌≡◌, ℕ, ◌≤◌, true, false, Some, Option};
+ghost use Rattle.lock.specs.Stages.{asked};
 ghost use Rattle.lock.specs.Fresh.{Fresh, Made};
 ghost use Rattle.lock.specs.Meaning.{Lawful};
 ghost use Rattle.algorithm.specs.Plan.{Plan, Coherent};
-ghost use Rattle.algorithm.specs.Turns.{found, place_of, with_place, fresh, made_for};
+ghost use Rattle.algorithm.specs.Turns.{found, place_of, stages, with_place, fresh, made_for};
 ghost use Rattle.algorithm.specs.Meaning.{Claims, meaning_by};
 ghost use Rattle.algorithm.specs.declared.PlaceLock.{PlaceLock};
 
 use bus::{Access, Registers};
 use lock::Lock;
-use lock::count::WrongStationCount;
+use lock::count::{MOST_STATIONS, WrongStationCount};
 use lock::stage::Stage;
 
 pub mod flags;
@@ -66,12 +67,12 @@ pub trait Algorithm: Copy {
 }
 
 // A lock. What belongs to station i has the index i - 1. A lock takes no memory from a heap and is made for a number of
-// stations that no type knows, so there is room for 16, and the number stands beside them.
+// stations that no type knows, so there is room for the most, and the number stands beside them.
 #[derive(Drop)]
 pub struct PlaceLock<P, M> {
     n: usize,
     registers: M,
-    places: [P; 16],
+    places: [P; MOST_STATIONS],
 }
 
 impl<P: Algorithm> PlaceLock<P, P::Registers> {
@@ -80,13 +81,13 @@ impl<P: Algorithm> PlaceLock<P, P::Registers> {
         ensures value { result ≡ made_for P.plan n }
         ensures fresh { Made (meaning_by P.plan P.Registers.value_of P.Registers.with_value P.claims) n result }
     {
-        if n == 0 || n > 16 {
+        if n == 0 || n > MOST_STATIONS {
             return Err(WrongStationCount);
         }
         Ok(PlaceLock {
             n,
             registers: P::registers(),
-            places: [P::idle(); 16],
+            places: [P::idle(); MOST_STATIONS],
         })
     }
 
@@ -115,6 +116,18 @@ impl<P: Algorithm> PlaceLock<P, P::Registers> {
         }
     }
 
+    // Takes a station that stands at a stage to a place. Says whether it stood there.
+    fn leave(&mut self, stage: Stage, station: usize, place: P) -> bool
+        ensures goes { asked (stages P.plan self.old) station ≡ Some stage → (self.new ≡ with_place self.old station place) × (result ≡ true) }
+        ensures stays { (asked (stages P.plan self.old) station ≡ Some stage → ⊥) → (self.new ≡ self.old) × (result ≡ false) }
+    {
+        let there = self.stage(station) == Some(stage);
+        if there {
+            self.go(station, place);
+        }
+        there
+    }
+
     // The access that the station's next turn makes; none for one at rest or inside, or for a number that is no station's.
     pub fn next_access(&self, station: usize) -> Option<Access<Name<P>, Value<P>>>
         ensures { result ≡ P.plan.access_at station (place_of P.plan self.now station) }
@@ -140,11 +153,7 @@ impl<P: Algorithm> Lock for PlaceLock<P, P::Registers> {
     }
 
     fn begin(&mut self, station: usize) -> bool {
-        let rests = self.stage(station) == Some(Stage::Rest);
-        if rests {
-            self.go(station, P::entry());
-        }
-        rests
+        self.leave(Stage::Rest, station, P::entry())
     }
 
     fn turn(&mut self, station: usize) -> bool {
@@ -161,10 +170,6 @@ impl<P: Algorithm> Lock for PlaceLock<P, P::Registers> {
     }
 
     fn end(&mut self, station: usize) -> bool {
-        let inside = self.stage(station) == Some(Stage::Inside);
-        if inside {
-            self.go(station, P::exit());
-        }
-        inside
+        self.leave(Stage::Inside, station, P::exit())
     }
 }

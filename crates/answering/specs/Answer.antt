@@ -7,7 +7,7 @@ use Rattle.runs.specs.declared.events.Call.{Call}
 use Rattle.kinds.specs.Runs.{set_up_refusal, kind_events, kind_board}
 use Rattle.runs.specs.declared.run.Fault.{Fault}
 use Rattle.runs.specs.declared.run.Fault.TheVariants.{Refused, Memory}
-use Rattle.sheet.specs.declared.calls.WrongForm.{WrongForm as Place}
+use Rattle.sheet.specs.declared.calls.WrongForm.{WrongForm as WrongLine}
 use Rattle.sheet.specs.declared.line.Call.{Call as Line}
 use Rattle.kinds.specs.declared.set_up.SetUp.{SetUp}
 use Rattle.sheet.specs.Line.{set_up_text, FitsSetUp, LegalFirst, Wrong}
@@ -21,13 +21,13 @@ abbrev pub refusal_of : SetUp → Option Refusal
 refusal_of x = set_up_refusal x.stations x.start
 
 -- the set-up's line, a line for what came of each call, and the lines of the end
-abbrev pub run_lines : SetUp → List Call → Option Place → List ℕ
+abbrev pub run_lines : SetUp → List Call → Option WrongLine → List ℕ
 run_lines x calls wrong = set_up_line x 0 ++ (flat_map event_line (kind_events x.kind x.stations x.start calls) ++ end_lines wrong (kind_board x.kind x.stations x.start calls))
 
 -- the output of a set-up that is not refused: the calls are those that the text after the first line reads as
 pub record Run (x : SetUp) (later out : List ℕ) : Type 0 where
   pub lines : List Line
-  pub wrong : Option Place
+  pub wrong : Option WrongLine
   pub read : Later 2 later lines wrong
   pub written : out ≡ run_lines x (map to_call lines) wrong
 

@@ -2,6 +2,7 @@ ghost use Rattle.std.specs.Prelude.{◌≡◌, IfOk, IfErr, None};
 ghost use Rattle.answering.specs.Answer.{Run, RefusedFor, refusal_of, Answered, OneOutput};
 
 use answers::Answer;
+use columns::LINE;
 use columns::wrong::WrongColumn;
 use input::LONGEST;
 use kinds::set_up::SetUp;
@@ -45,7 +46,7 @@ pub fn answer(heap: Global, text: &[u8]) -> Result<Vec<u8>, AllocError>
             return Vec::from_slice(heap, &SheetRefusal::WrongForm(wrong).to_line());
         }
     };
-    match serve(heap, set_up, &text[13..]) {
+    match serve(heap, set_up, &text[LINE..]) {
         Ok(out) => Ok(out),
         Err(Fault::Refused(refusal)) => {
             Vec::from_slice(heap, &line_of_set_up(set_up, refusal.number()))

@@ -12,7 +12,7 @@ use lock::stage::Stage;
 use std::error::Error;
 use std::fmt;
 
-// What a call answers. An answer is shown by its number, which is read with its call.
+// What a set-up, an order or a slot answers. An answer is shown by its number, which is read with its call.
 pub trait Answer {
     ghost number_of: { Self → ℕ };
 
@@ -20,7 +20,7 @@ pub trait Answer {
         ensures { result ≡ number_of self.now };
 }
 
-// An order that is accepted says no more than that.
+// A set-up or an order that is accepted says no more than that.
 impl Answer for () {
     ghost number_of = { λ _. 0 };
 
@@ -73,7 +73,7 @@ impl fmt::Display for Refusal {
 
     fn fmt<W: fmt::Write>(&self, f: &mut fmt::Formatter<W>) -> fmt::Result {
         f.write_str(match self {
-            Refusal::StationCount => "a rack has 1 to 16 stations",
+            Refusal::StationCount => return write!(f, "{WrongStationCount}"),
             Refusal::Start => "a start is at most 400000 kg/h",
             Refusal::StationNumber => "there is no such station",
             Refusal::TrimValue => "a trim is -200 to 200 permille, and not 0",

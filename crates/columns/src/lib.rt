@@ -2,6 +2,9 @@
 // their columns, and written into them.
 #![tactic(auto)]
 
+// The bytes of a line, with its line feed.
+pub const LINE: usize = 13;
+
 pub mod field;
 pub mod read;
 pub mod write;

@@ -1,6 +1,7 @@
 ghost use Rattle.std.specs.Prelude.{◌≡◌, ℕ, ◌<◌, slice_index};
 ghost use Rattle.columns.specs.Field.{FieldsRead};
 
+use crate::LINE;
 use crate::field::{Content, Form, read_field};
 use crate::wrong::WrongColumn;
 
@@ -23,7 +24,7 @@ pub fn read_fields(form: Form, rest: &[u8]) -> Result<(usize, Content), WrongCol
     let station = read_field(Form::Natural, 2, &[hundreds, tens, ones])?;
     let value = read_field(form, 5, &[v1, v2, v3, v4, v5, v6, v7, v8])?;
     if end != b'\n' {
-        return Err(WrongColumn(13));
+        return Err(WrongColumn(LINE));
     }
     Ok((station.size() as usize, value))
 }

@@ -13,12 +13,12 @@ abbrev pub kind_words : LockKind → List ℕ
 kind_words Fast = codes "fast"
 kind_words OneBit = codes "one-bit"
 
--- the letter's kind of lock, or nothing for a letter of none
+-- the letter's kind of lock, or the refusal of a letter of none
 abbrev pub KindRead : ℕ → Result LockKind NoSuchKind → Type 0
 KindRead letter (Ok k) = letter ≡ kind_letter k
 KindRead letter (Err e) = (k : LockKind) → letter ≢ kind_letter k
 
--- the kind of lock that is told by these words, or nothing for words of none
+-- the kind of lock that is told by these words, or the refusal of words of none
 abbrev pub KindNamed : List ℕ → Result LockKind NoSuchKind → Type 0
 KindNamed text (Ok k) = text ≡ kind_words k
 KindNamed text (Err e) = (k : LockKind) → text ≢ kind_words k

@@ -7,7 +7,7 @@ use answers::Refusal;
 use fast::Fast;
 use feed::task::CEILING;
 use lock::Lock;
-use lock::count::WrongStationCount;
+use lock::count::{MOST_STATIONS, WrongStationCount};
 use one_bit::OneBit;
 use runs::events::Call;
 use runs::run::{Fault, Ran, run};
@@ -26,7 +26,7 @@ impl SetUp {
     pub fn refusal(self) -> Option<Refusal>
         ensures { result ≡ set_up_refusal self.stations self.start }
     {
-        if !(1..=16).contains(&self.stations) {
+        if !(1..=MOST_STATIONS).contains(&self.stations) {
             Some(Refusal::StationCount)
         } else if self.start > CEILING as u32 {
             Some(Refusal::Start)

@@ -5,7 +5,10 @@ ghost use Rattle.lock.specs.Words.{wrong_count_words};
 use std::error::Error;
 use std::fmt;
 
-// The refusal of a lock for a number of stations outside 1 to 16.
+// The most stations of a lock.
+pub const MOST_STATIONS: usize = 16;
+
+// The refusal of a lock for a number of stations outside 1 to the most.
 #[derive(Clone, Copy, PartialEq, Eq, Debug)]
 pub struct WrongStationCount;
 

@@ -5,7 +5,7 @@ use Rattle.answers.specs.Numbers.{order_number, slot_number}
 use Rattle.answers.specs.declared.View.{View}
 use Rattle.runs.specs.declared.events.Event.{Event}
 use Rattle.runs.specs.declared.events.Event.TheVariants.{Ordered, Slotted, Looked, Shown}
-use Rattle.sheet.specs.declared.calls.WrongForm.{WrongForm as Place}
+use Rattle.sheet.specs.declared.calls.WrongForm.{WrongForm as WrongLine}
 use Rattle.kinds.specs.declared.set_up.SetUp.{SetUp}
 use Rattle.columns.specs.Field.{line_text}
 use Rattle.kinds.specs.Names.{kind_letter}
@@ -43,6 +43,6 @@ abbrev pub board_lines : View → List ℕ
 board_lines v = line_text 80 0 (signed_decimal v.setpoint) ++ (line_text 68 0 (signed_decimal v.depth) ++ line_text 87 0 (signed_decimal v.signer))
 
 -- the board at the end of the text; the place of a line of wrong form in place of it
-abbrev pub end_lines : Option Place → View → List ℕ
+abbrev pub end_lines : Option WrongLine → View → List ℕ
 end_lines None v = board_lines v
 end_lines (Some place) v = sheet_refusal_line (WrongForm place)

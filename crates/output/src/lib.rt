@@ -8,6 +8,7 @@ ghost use Rattle.sheet.specs.Line.{job_letter};
 ghost use Rattle.output.specs.Output.{set_up_line, event_line, sheet_refusal_number, sheet_refusal_words, sheet_refusal_line, board_lines, end_lines};
 
 use answers::{Answer, View};
+use columns::LINE;
 use columns::field::Content;
 use columns::write::{write_line, write_signed};
 use feed::job::Job;
@@ -37,7 +38,7 @@ impl SheetRefusal {
     }
 
     // 'X' with the wrong column and its line, or with 0 and 0.
-    pub fn to_line(self) -> [u8; 13]
+    pub fn to_line(self) -> [u8; LINE]
         ensures { result ≡ sheet_refusal_line self }
     {
         match self {
@@ -74,14 +75,14 @@ fn letter_of_job(job: Job) -> u8
 }
 
 // The answer to a line of the sheet: its letter, its station and the answer's number.
-fn answer_line(letter: u8, station: usize, number: u8) -> [u8; 13]
+fn answer_line(letter: u8, station: usize, number: u8) -> [u8; LINE]
     ensures { result ≡ line_text letter station (decimal number) }
 {
     write_line(letter, station, Content::Number(u64::from(number)))
 }
 
 // The answer to a set-up: its letter, its number of stations and the answer's number.
-pub fn line_of_set_up(set_up: SetUp, number: u8) -> [u8; 13]
+pub fn line_of_set_up(set_up: SetUp, number: u8) -> [u8; LINE]
     ensures { result ≡ set_up_line set_up number }
 {
     answer_line(set_up.kind.into(), set_up.stations, number)

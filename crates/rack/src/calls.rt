@@ -10,6 +10,7 @@ use feed::board::{Board, Register};
 use feed::job::{Job, Verdict};
 use feed::task::{CEILING, Task};
 use lock::Lock;
+use lock::count::MOST_STATIONS;
 use lock::stage::Stage;
 use std::ops::ControlFlow::{Break, Continue};
 
@@ -21,11 +22,11 @@ pub struct Station {
     last: Option<Verdict>,
 }
 
-// What belongs to station i has the index i - 1. A rack takes no memory from a heap: there is room for 16 stations.
+// What belongs to station i has the index i - 1. A rack takes no memory from a heap: there is room for the most stations of a lock.
 #[derive(Drop)]
 pub struct Rack<L> {
     lock: L,
-    stations: [Station; 16],
+    stations: [Station; MOST_STATIONS],
     board: Board,
 }
 
@@ -57,7 +58,7 @@ impl<L: Lock + Drop> Rack<L> {
         };
         Ok(Rack {
             lock,
-            stations: [idle; 16],
+            stations: [idle; MOST_STATIONS],
             board: Board::new(start as i32),
         })
     }
@@ -134,7 +135,7 @@ impl<L: Lock> Rack<L> {
     {
         let Station { task, count, last } = self.stations[number.index()];
         let count = count.saturating_add(1);
-        match self.board.step(number.station() as u8, task) {
+        match self.board.step(number.on_board(), task) {
             Continue(task) => {
                 self.stations[number.index()] = Station { task, count, last };
                 Served::Working
@@ -163,7 +164,7 @@ impl<L: Lock> Rack<L> {
     {
         match self.find(station) {
             Ok((number, Stage::Inside)) => {
-                Some(self.stations[number.index()].task.access(station as u8))
+                Some(self.stations[number.index()].task.access(number.on_board()))
             }
             _ => None,
         }
@@ -172,14 +173,16 @@ impl<L: Lock> Rack<L> {
     fn is_inside(&self, station: usize) -> bool
         ensures { result ≡ is_inside (L.meaning.stages self.now.lock) station }
     {
-        matches!(self.lock.stage(station), Some(Stage::Inside))
+        self.lock.stage(station) == Some(Stage::Inside)
     }
 
     // The station inside, if there is one, found by asking the lock from its highest station down.
     fn inside(&self) -> Option<usize>
         ensures { result ≡ inside_among (L.meaning.stages self.now.lock) 16 }
     {
-        (1..=16).rev().find(|station| self.is_inside(*station))
+        (1..=MOST_STATIONS)
+            .rev()
+            .find(|station| self.is_inside(*station))
     }
 
     // What the board shows; with a station inside, its job may be half done.

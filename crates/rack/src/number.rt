@@ -1,6 +1,7 @@
 ghost use Rattle.std.specs.Prelude.{◌≡◌, ℕ, ◌-◌, ◌<◌, ◌≤◌};
 ghost use Rattle.rack.specs.Number.{numbered};
 
+use lock::count::MOST_STATIONS;
 use std::marker::Model;
 
 // A number from 1 to 16: that of a station for which a rack has room.
@@ -23,7 +24,7 @@ impl Number {
     pub fn new(station: usize) -> Option<Number>
         ensures { result ≡ numbered station }
     {
-        if (1..=16).contains(&station) {
+        if (1..=MOST_STATIONS).contains(&station) {
             Some(Number { station })
         } else {
             None
@@ -36,6 +37,13 @@ impl Number {
         ensures within { (1 ≤ result) × (result ≤ 16) }
     {
         self.station
+    }
+
+    // The number as the signer of a setpoint.
+    pub fn on_board(self) -> u8
+        ensures { result ≡ self }
+    {
+        self.station as u8
     }
 
     // Where the rack keeps what belongs to the station.

@@ -6,4 +6,4 @@ use Rattle.runs.specs.declared.run.Fault.TheVariants.{Refused, Memory}
 
 abbrev pub fault_words : Fault → List ℕ
 fault_words (Refused f) = refusal_words f
-fault_words Memory = codes "there is no memory for the events"
+fault_words Memory = codes "there is not enough memory"

@@ -14,7 +14,7 @@ use std::alloc::{AllocError, AllocFailed, Global};
 use std::error::Error;
 use std::fmt;
 
-// Why a run gives no rack: its set-up was sent back, or there is no memory for its events.
+// Why a run comes to nothing: its set-up was sent back, or there is not enough memory.
 #[derive(Clone, Copy, PartialEq, Eq, Debug)]
 pub enum Fault {
     Refused(Refusal),
@@ -25,14 +25,14 @@ impl From<Refusal> for Fault {
     ghost from_gives = { λ refusal fault. fault ≡ Refused refusal };
 
     fn from(refusal: Refusal) -> Fault {
-        Fault::Refused(refusal)
+        Self::Refused(refusal)
     }
 }
 
 impl<T: Drop> From<AllocFailed<T>> for Fault {
     ghost from_gives = { λ _ fault. fault ≡ Memory };
 
-    fn from(_refused: AllocFailed<T>) -> Fault {
+    fn from(_failed: AllocFailed<T>) -> Fault {
         Fault::Memory
     }
 }
@@ -51,7 +51,7 @@ impl fmt::Display for Fault {
     fn fmt<W: fmt::Write>(&self, f: &mut fmt::Formatter<W>) -> fmt::Result {
         match self {
             Fault::Refused(refusal) => write!(f, "{refusal}"),
-            Fault::Memory => f.write_str("there is no memory for the events"),
+            Fault::Memory => f.write_str("there is not enough memory"),
         }
     }
 }
@@ -94,6 +94,7 @@ pub fn run<L: Lock + Drop>(
 {
     let mut rack = Rack::set_up(lock, start)?;
     let mut events = Vec::new(heap);
+    // A loop, since `collect` says nothing of the rack that its closure would alter.
     for call in calls {
         events.push(make(&mut rack, *call))?;
     }

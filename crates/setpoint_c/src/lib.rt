@@ -13,6 +13,7 @@ ghost use Rattle.feed.specs.Task.{computed};
 use crate::buffer::place;
 use crate::outcome::Outcome;
 use answering::answer::answer;
+use columns::LINE;
 use feed::task::difference;
 use input::LONGEST;
 use std::alloc::Global;
@@ -23,7 +24,7 @@ mod outcome;
 mod tests;
 
 // Three lines: what the end of a sheet adds to a line for each of its own.
-const END_LINES: usize = 39;
+const END_LINES: usize = 3 * LINE;
 
 // Answers a sheet into the caller's buffer.
 fn answer_into(heap: Global, sheet: &[u8], buffer: &mut [u8], output_length: &mut usize) -> Outcome

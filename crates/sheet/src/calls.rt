@@ -4,6 +4,7 @@ ghost use Rattle.sheet.specs.Words.{wrong_form_text};
 
 use crate::line::Call;
 use crate::read::read_call;
+use columns::LINE;
 use columns::wrong::WrongColumn;
 use std::alloc::{AllocError, Global};
 use std::error::Error;
@@ -38,7 +39,7 @@ pub fn read_calls(heap: Global, text: &[u8]) -> Result<Calls, AllocError>
     ensures { IfOk result (λ c. Later 2 text.now c.calls.items c.wrong) }
 {
     let mut calls = Vec::new(heap);
-    for line in text.chunks(13) {
+    for line in text.chunks(LINE) {
         match read_call(line) {
             Ok(call) => calls.push(call)?,
             Err(WrongColumn(column)) => {

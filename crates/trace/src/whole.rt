@@ -5,6 +5,7 @@ use crate::telling::tell_call;
 use crate::words::tell_refusal;
 use crate::wrong::{tell_too_long, tell_wrong};
 use answers::Refusal;
+use columns::LINE;
 use columns::wrong::WrongColumn;
 use fast::Fast;
 use input::LONGEST;
@@ -18,9 +19,6 @@ use sheet::calls::{WrongForm, read_calls};
 use sheet::read::read_set_up;
 use std::alloc::Global;
 use std::fmt;
-
-// The bytes of a line of right form, with its line feed.
-const LINE: usize = 13;
 
 fn tell_set_up(out: &mut impl fmt::Write, set_up: SetUp) -> fmt::Result {
     let SetUp {

@@ -1,4 +1,5 @@
 // The message for a sheet, or a line of one, that is not read.
+use columns::wrong::WrongColumn;
 use input::LONGEST;
 use output::SheetRefusal;
 use sheet::calls::WrongForm;
@@ -58,7 +59,8 @@ pub fn tell_wrong(out: &mut impl fmt::Write, text: &[u8], wrong: WrongForm) -> f
     let number = SheetRefusal::WrongForm(wrong).number();
     write!(
         out,
-        "line {line}: refused, wrong form at column {column}; the sheet is read no further ({number})\n  "
+        "line {line}: refused, {}; the sheet is read no further ({number})\n  ",
+        WrongColumn(column)
     )?;
     let shown = text
         .split(|byte| *byte == b'\n')
