@@ -32,7 +32,7 @@ impl Flags {
     pub fn set(&mut self, station: usize, raised: bool)
         ensures { self.new ≡ with_flag self.old station raised }
     {
-        if station > 0 && station <= self.raised.len() {
+        if (1..=self.raised.len()).contains(&station) {
             self.raised[station - 1] = raised;
         }
     }

@@ -33,17 +33,19 @@ pub trait Algorithm: Copy {
     // what it claims of a lock's turns
     ghost claims: { Claims (PlaceLock Self Self.Registers) };
 
-    // where a station rests, where it begins, and where it ends its time inside
+    // Where a station rests.
     fn idle() -> Self
         ensures { result ≡ plan.idle };
 
+    // Where it begins.
     fn entry() -> Self
         ensures { result ≡ plan.entry };
 
+    // Where it goes from inside.
     fn exit() -> Self
         ensures { result ≡ plan.exit };
 
-    // the registers while all rest
+    // The registers while all rest.
     fn registers() -> Self::Registers
         ensures { result ≡ plan.registers };
 
@@ -61,8 +63,10 @@ pub trait Algorithm: Copy {
     // a station at rest or inside has no access to make, and any other has one
     ghost coherent: { Coherent plan };
 
+    // a lock by the algorithm owes what every lock owes
     ghost lawful: { Lawful (meaning_by plan Self.Registers.value_of Self.Registers.with_value claims) };
 
+    // a fresh lock is sound, and all its stations rest
     ghost starts: { (n : ℕ) → 1 ≤ n → n ≤ 16 → Fresh (meaning_by plan Self.Registers.value_of Self.Registers.with_value claims) n (fresh plan n) };
 }
 
@@ -81,7 +85,7 @@ impl<P: Algorithm> PlaceLock<P, P::Registers> {
         ensures value { result ≡ made_for P.plan n }
         ensures fresh { Made (meaning_by P.plan P.Registers.value_of P.Registers.with_value P.claims) n result }
     {
-        if n == 0 || n > MOST_STATIONS {
+        if !(1..=MOST_STATIONS).contains(&n) {
             return Err(WrongStationCount);
         }
         Ok(PlaceLock {
@@ -95,7 +99,7 @@ impl<P: Algorithm> PlaceLock<P, P::Registers> {
     fn find(&self, station: usize) -> Option<P>
         ensures { result ≡ found self.now station }
     {
-        if station == 0 || station > self.n {
+        if !(1..=self.n).contains(&station) {
             return None;
         }
         self.places.get(station - 1).copied()
@@ -111,7 +115,7 @@ impl<P: Algorithm> PlaceLock<P, P::Registers> {
     fn go(&mut self, station: usize, place: P)
         ensures { self.new ≡ with_place self.old station place }
     {
-        if station > 0 && station <= self.places.len() {
+        if (1..=self.places.len()).contains(&station) {
             self.places[station - 1] = place;
         }
     }
