@@ -21,9 +21,6 @@ module _ {P M R V : Type 0} (a : Plan P M R V) (l : PlaceLock P M) (i : ℕ) whe
   pub place_in : Within → place_of a l i ≡ get_or l.places (i - 1) a.idle
   place_in = among.place_within a.stage_at a.idle l.n l.places i
 
-  pub place_out : Outside → place_of a l i ≡ a.idle
-  place_out = among.place_outside a.stage_at a.idle l.n l.places i
-
   pub in_or_out : (Within × (i ≤ length l.places)) ⊎ Outside
   in_or_out = among.within_or_outside a.stage_at a.idle l.n l.places i
 

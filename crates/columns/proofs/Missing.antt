@@ -1,5 +1,5 @@
 -- Missing bytes count as 0, which no line has: a text that ends too early stops where its zeros begin.
-use Rattle.std.proofs.Common.{◌≡◌, ℕ, zero, suc, ◌+◌, ◌<◌, ◌≤◌, List, [], ◌∷◌, length, get_or, take, drop, sym, refl, ap, ◌∙◌, arith, take_all, drop-cons}
+use Rattle.std.proofs.Common.{◌≡◌, ℕ, zero, suc, ◌+◌, ◌<◌, ◌≤◌, List, [], ◌∷◌, length, get_or, take, sym, refl, ap, ◌∙◌, arith, take_all}
 use Rattle.std.specs.List.{All}
 use Rattle.std.proofs.lemmas.List.Elements.{All-head, All-tail}
 use Rattle.columns.specs.Stops.{Stops}
@@ -16,10 +16,6 @@ shifted (suc w) i x t = ap (λ u. get_or t i 0 ∷ u) (shifted w (suc i) x t)
 pub same-columns : (r t : List ℕ) (n : ℕ) → ((k : ℕ) → k < n → get_or r k 0 ≡ get_or t k 0) → (w i : ℕ) → i + w ≤ n → columns w i r ≡ columns w i t
 same-columns r t n e zero i h = refl
 same-columns r t n e (suc w) i h = rw (e i (omega arith), same-columns r t n e w (suc i) (omega arith))
-
-pub columns_are : (w i : ℕ) (t : List ℕ) → i + w ≤ length t → take w (drop i t) ≡ columns w i t
-columns_are zero i t h = refl
-columns_are (suc w) i t h = rw (drop-cons t i 0 (omega arith)) (ap (λ u. get_or t i 0 ∷ u) (columns_are w (suc i) t (omega arith)))
 
 abbrev pub Positive : ℕ → Type 0
 Positive b = 1 ≤ b

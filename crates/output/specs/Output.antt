@@ -42,7 +42,7 @@ sheet_refusal_line TooLong = line_text 88 0 (decimal 0)
 abbrev pub board_lines : View → List ℕ
 board_lines v = line_text 80 0 (signed_decimal v.setpoint) ++ (line_text 68 0 (signed_decimal v.depth) ++ line_text 87 0 (signed_decimal v.signer))
 
--- the board at the end of the text; the place of a line of wrong form in place of it
+-- the board at the end of the text, or where its first line of wrong form is
 abbrev pub end_lines : Option WrongLine → View → List ℕ
 end_lines None v = board_lines v
 end_lines (Some place) v = sheet_refusal_line (WrongForm place)

@@ -1,5 +1,5 @@
 -- Each line has 13 bytes.
-use Rattle.std.proofs.Common.{◌≡◌, ℕ, ◌≤◌, min, List, length, take, decimal, sym, ap, ◌∙◌, arith, length-take}
+use Rattle.std.proofs.Common.{◌≡◌, length, decimal}
 use Rattle.std.specs.Fmt.{signed_decimal}
 use Rattle.sheet.specs.declared.line.Call.{Call}
 use Rattle.kinds.specs.declared.set_up.SetUp.{SetUp}
@@ -12,7 +12,3 @@ set_up-length x = line_length (kind_letter x.kind) x.stations (decimal x.start)
 
 pub call_length : (x : Call) → length (call_text x) ≡ 13
 call_length x = line_length (call_letter x) (call_station x) (signed_decimal (call_value x))
-
--- a text that begins with a line has its 13 bytes
-pub has_line : (text line : List ℕ) → length line ≡ 13 → take 13 text ≡ line → 13 ≤ length text
-has_line text line n e = let m : min 13 (length text) ≡ 13 = sym (length-take 13 text) ∙ ap length e ∙ n in omega arith

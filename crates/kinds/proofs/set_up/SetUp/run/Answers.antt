@@ -1,5 +1,7 @@
 -- The lock of each kind is fresh where it is made, and its lone cost is exact.
-use Rattle.std.proofs.Common.{◌≡◌, ◌+◌, cond, ◌||◌, ◌==◌, nat_lt, Ok, Err, refl, arith, rules}
+use Rattle.std.proofs.Common.{◌≡◌, ◌+◌, ℕ, cond, ◌||◌, ◌==◌, nat_lt, Result, Ok, Err, refl, arith, rules}
+use Rattle.lock.specs.declared.count.WrongStationCount.{WrongStationCount}
+use Rattle.algorithm.specs.declared.PlaceLock.{PlaceLock}
 use Rattle.fast.specs.Meaning.{fast_meaning}
 use Rattle.fast.specs.Plan.{fresh as fresh_fast}
 use Rattle.fast.proofs.Climb as fast_climb
@@ -26,26 +28,29 @@ returns-in-OneBit-clause-keeps c =
     search rules
 
 -- what `new` made, written out
+abbrev Made : {P M : Type 0} → (ℕ → PlaceLock P M) → ℕ → Result (PlaceLock P M) WrongStationCount → Type 0
+Made fresh n r = r ≡ cond (n == 0 || nat_lt 16 n) (Err (record {})) (Ok (fresh n))
+
 pub returns-in-Fast-clause-throughout : goal.returns-in-Fast-clause-throughout
 returns-in-Fast-clause-throughout c =
     let n = c.args.self.stations in
-    let made : c.new-lock.result ≡ cond (n == 0 || nat_lt 16 n) (Err (record {})) (Ok (fresh_fast n)) = c.new-lock.ensures.value in
+    let made : Made fresh_fast n c.new-lock.result = c.new-lock.ensures.value in
     grind (arith, made)
 
 pub returns-in-Fast-clause-does : goal.returns-in-Fast-clause-does
 returns-in-Fast-clause-does c =
     let n = c.args.self.stations in
-    let made : c.new-lock.result ≡ cond (n == 0 || nat_lt 16 n) (Err (record {})) (Ok (fresh_fast n)) = c.new-lock.ensures.value in
+    let made : Made fresh_fast n c.new-lock.result = c.new-lock.ensures.value in
     grind (arith, made)
 
 pub returns-in-OneBit-clause-throughout : goal.returns-in-OneBit-clause-throughout
 returns-in-OneBit-clause-throughout c =
     let n = c.args.self.stations in
-    let made : c.new-lock-in-OneBit.result ≡ cond (n == 0 || nat_lt 16 n) (Err (record {})) (Ok (fresh_one_bit n)) = c.new-lock-in-OneBit.ensures.value in
+    let made : Made fresh_one_bit n c.new-lock-in-OneBit.result = c.new-lock-in-OneBit.ensures.value in
     grind (arith, made)
 
 pub returns-in-OneBit-clause-does : goal.returns-in-OneBit-clause-does
 returns-in-OneBit-clause-does c =
     let n = c.args.self.stations in
-    let made : c.new-lock-in-OneBit.result ≡ cond (n == 0 || nat_lt 16 n) (Err (record {})) (Ok (fresh_one_bit n)) = c.new-lock-in-OneBit.ensures.value in
+    let made : Made fresh_one_bit n c.new-lock-in-OneBit.result = c.new-lock-in-OneBit.ensures.value in
     grind (arith, made)
