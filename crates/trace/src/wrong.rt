@@ -1,4 +1,5 @@
 // The message for a sheet, or a line of one, that is not read.
+use columns::LINE;
 use columns::wrong::WrongColumn;
 use input::LONGEST;
 use output::SheetRefusal;
@@ -53,6 +54,17 @@ fn expected(line: usize, letter: Option<u8>, column: usize) -> &'static str {
     }
 }
 
+// What is shown of a line, without its line feed. All lines before it are of right form.
+fn shown_of(text: &[u8], line: usize) -> &[u8] {
+    let start = line.saturating_sub(1).saturating_mul(LINE);
+    let rest = text.get(start..).unwrap_or(&[]);
+    let most = rest.len().min(WIDTH + DOTS);
+    rest[..most]
+        .split(|byte| *byte == b'\n')
+        .next()
+        .unwrap_or(&[])
+}
+
 // A line of wrong form, with a caret under its wrong column.
 pub fn tell_wrong(out: &mut impl fmt::Write, text: &[u8], wrong: WrongForm) -> fmt::Result {
     let WrongForm { line, column } = wrong;
@@ -62,10 +74,7 @@ pub fn tell_wrong(out: &mut impl fmt::Write, text: &[u8], wrong: WrongForm) -> f
         "line {line}: refused, {}; the sheet is read no further ({number})\n  ",
         WrongColumn(column)
     )?;
-    let shown = text
-        .split(|byte| *byte == b'\n')
-        .nth(line.saturating_sub(1))
-        .unwrap_or(&[]);
+    let shown = shown_of(text, line);
     show_line(out, shown)?;
     let words = expected(line, shown.first().copied(), column);
     writeln!(out, "\n  {:>column$}\n  expected: {words}", '^')
