@@ -1,5 +1,5 @@
 -- The laws that a lock by an algorithm owes, from what is particular to the algorithm.
-use Rattle.std.proofs.Common.{◌≡◌, ℕ, ◌-◌, ◌<◌, ◌≤◌, true, false, ◌⊎◌, length, is_some, None, Some, Option, refl, sym, ap, ◌∙◌, inl, inr, ⊎_elim, arith}
+use Rattle.std.proofs.Common.{◌≡◌, ℕ, ◌-◌, ◌<◌, ◌≤◌, true, false, ◌⊎◌, length, is_some, None, Some, Ok, Option, refl, sym, ap, ◌∙◌, inl, inr, ⊎_elim, arith}
 use Rattle.std.proofs.lemmas.Bool.{cases_Bool}
 use lib.ListN.{get_or-replicate}
 use Rattle.bus.specs.declared.Access.{Access}
@@ -13,7 +13,7 @@ use Rattle.lock.proofs.Places.{asked_outside, moved_place}
 use Rattle.lock.proofs.Tests.{resting-asked, inside-asked}
 use Rattle.algorithm.specs.declared.PlaceLock.{PlaceLock}
 use Rattle.algorithm.specs.Plan.{Plan, Coherent}
-use Rattle.algorithm.specs.Turns.{place_of, stages, fresh, with_place, with_registers, stepped, turned, begun, ended}
+use Rattle.algorithm.specs.Turns.{place_of, stages, fresh, made_for, with_place, with_registers, stepped, turned, begun, ended}
 use Rattle.algorithm.specs.Meaning.{Claims, meaning_by}
 use Rattle.algorithm.proofs.Stations.{Within, Outside, place_in, in_or_out, moving_access, length_stages, asked_at, numbered, stage_there}
 
@@ -23,10 +23,10 @@ module _ {P M R V : Type 0} (a : Plan P M R V) (l : PlaceLock P M) (i : ℕ) whe
   stages_with h p = let e = moved_place a.stage_at l.n l.places i p h in grind arith
 
   -- where there is nothing to do
-  begun_same : is_resting (stages a l) i ≡ false → begun a l i ≡ l
+  pub begun_same : is_resting (stages a l) i ≡ false → begun a l i ≡ l
   begun_same r = grind arith
 
-  ended_same : is_inside (stages a l) i ≡ false → ended a l i ≡ l
+  pub ended_same : is_inside (stages a l) i ≡ false → ended a l i ≡ l
   ended_same r = grind arith
 
   -- where there is something
@@ -48,6 +48,10 @@ module _ {P M R V : Type 0} (a : Plan P M R V) (value_of : M → R → V) (with_
 
   pub turned_same : Coherent a → is_moving (stages a l) i ≡ false → turned a value_of with_value l i ≡ l
   turned_same co m = step_same (a.access_at i (place_of a l i)) (place_of a l i) (sym (moving_access a l i co) ∙ m)
+
+  -- a number that is no station's makes no access
+  pub turned_outside : Coherent a → Outside a l i → turned a value_of with_value l i ≡ l
+  turned_outside co o = turned_same co (let e = asked_outside a.stage_at l.n l.places i o in grind arith)
 
   -- a turn moves its station to the stage of a place that follows
   step_stages : 1 ≤ i → (p : P) (o : Option (Access R V)) → is_some o ≡ true →
@@ -159,6 +163,10 @@ module _ {P M R V : Type 0} (a : Plan P M R V) (value_of : M → R → V) (with_
     leave_bound = x.leave_bound;
     leave_falls = x.leave_falls;
   }
+
+-- for 1 to 16 stations a lock is made
+pub made : {P M R V : Type 0} (a : Plan P M R V) (n : ℕ) → 1 ≤ n → n ≤ 16 → Ok (fresh a n) ≡ made_for a n
+made a n least most = grind arith
 
 -- a fresh lock: all its stations rest
 module _ {P M R V : Type 0} (a : Plan P M R V) (co : Coherent a) (n : ℕ) (most : n ≤ 16) where

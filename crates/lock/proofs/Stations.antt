@@ -26,6 +26,9 @@ module _ {P : Type 0} (f : P → Stage) (idle : P) (n : ℕ) (ps : List P) (i : 
   pub asked_within : Within → i ≤ length ps → asked (stages_among f n ps) i ≡ Some (f (place_among idle n ps i))
   asked_within h m = asked_place f n ps i idle h.0 h.1 m ∙ ap (λ p. Some (f p)) (sym (place_within h))
 
+  pub asked_read : (p : P) → Within → i ≤ length ps → p ≡ get_or ps (i - 1) idle → Some (f p) ≡ asked (stages_among f n ps) i
+  asked_read p h m e = ap (λ q. Some (f q)) (e ∙ sym (place_within h)) ∙ sym (asked_within h m)
+
   -- a number that has a stage is a station's
   pub asked_numbered : (x : Stage) → asked (stages_among f n ps) i ≡ Some x → Within
   asked_numbered x e = ⊎_elim (λ h. h.0) (λ o. let none = asked_outside f n ps i o in grind arith) within_or_outside

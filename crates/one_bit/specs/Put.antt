@@ -3,10 +3,12 @@ use Rattle.std.specs.Prelude.{◌≡◌, ℕ, ◌-◌, ◌<◌, ◌≢◌, slice
 use Rattle.std.proofs.Common.{arith, length-set, get_or-set_same, get_or-set_other}
 use Rattle.std.proofs.lemmas.List.{set-get_or}
 use Rattle.std.proofs.lemmas.Bool.{cases_eq}
+use Rattle.lock.specs.Stages.{moved}
+use Rattle.lock.proofs.Places.{moved_place}
 use Rattle.algorithm.specs.Turns.{with_place}
 use Rattle.one_bit.specs.declared.place.Place.{Place}
-use Rattle.one_bit.specs.Places.{raised, reach, Ranged}
-use Rattle.one_bit.specs.Plan.{OneBit, place_of, flag_of}
+use Rattle.one_bit.specs.Places.{stage_at, raised, reach, Ranged}
+use Rattle.one_bit.specs.Plan.{OneBit, place_of, flag_of, stages}
 use Rattle.one_bit.specs.Sound.{Numbered, Sound}
 
 abbrev pub put : OneBit → ℕ → Place → OneBit
@@ -25,6 +27,9 @@ module _ (l : OneBit) (s : Sound l) (i : ℕ) (h : Numbered l i) where
   put_same = let f = s.flags i h in grind (arith, set-get_or)
 
   module _ (p : Place) where
+    pub stages_put : stages (put l i p) ≡ moved (stages l) i (stage_at p)
+    stages_put = moved_place stage_at l.n l.places i p h.0
+
     pub place_here : place_of (put l i p) i ≡ p
     place_here = grind (arith, get_or-set_same)
 
