@@ -14,15 +14,11 @@ use sheet::read::read_set_up;
 use std::alloc::{AllocError, Global};
 
 // Reads the text after the first line, makes its calls and writes a line for each, below that of the set-up.
-// After a set-up that is refused nothing is read.
-fn serve(heap: Global, set_up: SetUp, later: &[u8]) -> Result<Vec<u8>, Fault>
+fn run_on(heap: Global, set_up: SetUp, later: &[u8]) -> Result<Vec<u8>, Fault>
     ensures ran { IfOk result (λ out. Run set_up later.now out.items) }
     ensures accepted { IfOk result (λ _. refusal_of set_up ≡ None) }
     ensures refused { IfErr result (RefusedFor set_up) }
 {
-    if let Some(refusal) = set_up.refusal() {
-        return Err(refusal.into());
-    }
     let read = read_calls(heap, later)?;
     let calls: Vec<Call> = read.calls.iter().copied().map(Call::from).collect(heap)?;
     let ran = set_up.run(heap, &calls)?;
@@ -30,6 +26,18 @@ fn serve(heap: Global, set_up: SetUp, later: &[u8]) -> Result<Vec<u8>, Fault>
     add_events(&mut out, ran.events())?;
     add_end(&mut out, read.wrong, ran.board())?;
     Ok(out)
+}
+
+// After a set-up that is refused nothing is read.
+fn serve(heap: Global, set_up: SetUp, later: &[u8]) -> Result<Vec<u8>, Fault>
+    ensures ran { IfOk result (λ out. Run set_up later.now out.items) }
+    ensures accepted { IfOk result (λ _. refusal_of set_up ≡ None) }
+    ensures refused { IfErr result (RefusedFor set_up) }
+{
+    match set_up.refusal() {
+        Some(refusal) => Err(refusal.into()),
+        None => run_on(heap, set_up, later),
+    }
 }
 
 // The output of a sheet.

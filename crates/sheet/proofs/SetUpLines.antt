@@ -9,7 +9,7 @@ use Rattle.kinds.specs.declared.set_up.SetUp.{SetUp}
 use Rattle.columns.specs.declared.wrong.WrongColumn.{WrongColumn}
 use Rattle.columns.specs.Field.{shown, size_of, Fits, fields_text}
 use Rattle.kinds.specs.Names.{kind_letter}
-use Rattle.sheet.specs.Line.{set_up_text, FitsSetUp, Wrong, LegalFirst, SetUpRead}
+use Rattle.sheet.specs.Line.{set_up_letter, set_up_text, FitsSetUp, Wrong, LegalFirst, SetUpRead}
 use Rattle.sheet.proofs.Lines.{Lines, Read, wrong_letter, wrong, right}
 
 abbrev kind_at : ℕ → LockKind
@@ -21,6 +21,10 @@ Known a = (a ≡ 70) ⊎ (a ≡ 66)
 known : (k : LockKind) → Known (kind_letter k)
 known Fast = inl refl
 known OneBit = inr refl
+
+letter_known : (k : LockKind) (n s : ℕ) → Known (set_up_letter (record { kind = k; stations = n; start = s }))
+letter_known Fast n s = inl refl
+letter_known OneBit n s = inr refl
 
 known_some : (a : ℕ) → Known a → 1 ≤ a
 known_some a k = grind arith
@@ -36,16 +40,19 @@ kind_known : (a : ℕ) → Known a → kind_letter (kind_at a) ≡ a
 kind_known a (inl e) = rw e
 kind_known a (inr e) = rw e
 
+letter_from : (a s : ℕ) (v : Content) → Known a → set_up_letter (set_up_from a s v) ≡ a
+letter_from a s v = kind_known a
+
 natural_made : (v : Content) → Fits Natural 8 v → (Number (size_of v) ≡ v) × (size_of v < 10 ^ 8)
 natural_made v f = grind arith
 
 made : (a s : ℕ) (v : Content) → Known a → s < 1000 → Fits Natural 8 v → FitsSetUp (set_up_from a s v) × (set_up_text (set_up_from a s v) ≡ a ∷ fields_text s (shown v))
-made a s v k h f = let p = natural_made v f in ((h, p.1), rw (kind_known a k) (ap (λ u. a ∷ fields_text s (shown u)) p.0))
+made a s v k h f = let p = natural_made v f in ((h, p.1), rw (letter_from a s v k) (ap (λ u. a ∷ fields_text s (shown u)) p.0))
 
 pub set_ups : Lines SetUp set_up_text FitsSetUp
 set_ups =
     record {
-      letter_of = λ x. kind_letter x.kind;
+      letter_of = set_up_letter;
       station_of = λ x. x.stations;
       content_of = λ x. Number x.start;
       form_at = λ a. Natural;
@@ -53,7 +60,7 @@ set_ups =
       Known = Known;
       any = 66;
       any_known = inr refl;
-      known = λ x. known x.kind;
+      known = λ x. letter_known x.kind x.stations x.start;
       known_some = known_some;
       spelled = λ x. refl;
       fitted = λ x f. grind arith;

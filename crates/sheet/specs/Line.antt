@@ -10,8 +10,12 @@ use Rattle.sheet.specs.declared.line.Call.TheVariants.{Order, Slot}
 use Rattle.columns.specs.declared.wrong.WrongColumn.{WrongColumn}
 use Rattle.columns.specs.Field.{line_text}
 
+-- that of the kind of lock
+abbrev pub set_up_letter : SetUp → ℕ
+set_up_letter x = kind_letter x.kind
+
 abbrev pub set_up_text : SetUp → List ℕ
-set_up_text x = line_text (kind_letter x.kind) x.stations (decimal x.start)
+set_up_text x = line_text (set_up_letter x) x.stations (decimal x.start)
 
 -- 'T', 'U' and 'G'
 abbrev pub job_letter : Job → ℕ

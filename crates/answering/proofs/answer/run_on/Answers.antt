@@ -1,7 +1,7 @@
 use Rattle.std.proofs.Common.{◌≡◌, map, vec_items, ◌∙◌, rules}
 use Rattle.sheet.specs.Calls.{to_call}
 use Rattle.answering.proofs.RunLines.{run_made, run_written, run_of_lines}
-use Rattle.answering.proofs.answer.serve.Goals as goal
+use Rattle.answering.proofs.answer.run_on.Goals as goal
 
 pub returns-clause-ran : goal.returns-clause-ran
 returns-clause-ran c =
