@@ -13,7 +13,7 @@
  *
  * Memory. setpoint_answer takes its working memory from the program's malloc, and has given all of it back with free when it
  * returns, whatever it answers. The others take none. No function calls itself, so the stack that they use is bounded. Measured,
- * and not proved: 15 KB of stack; of malloc's memory 1,016 bytes for a sheet of 7 lines and 884,736 bytes for one of 5,000.
+ * and not proved: 15 KB of stack; of malloc's memory 968 bytes for a sheet of 7 lines and 808,104 bytes for one of 5,000.
  *
  * What the caller owes. Nothing checks it, and the proofs rest on it:
  *
