@@ -29,6 +29,9 @@ module _ {P M R V : Type 0} (a : Plan P M R V) (l : PlaceLock P M) (i : ℕ) whe
   pub ended_same : is_inside (stages a l) i ≡ false → ended a l i ≡ l
   ended_same r = grind arith
 
+  still : Outside a l i → is_moving (stages a l) i ≡ false
+  still o = let e = asked_outside a.stage_at l.n l.places i o in grind arith
+
   -- where there is something
   begun_there : is_resting (stages a l) i ≡ true → begun a l i ≡ with_place l i a.entry
   begun_there r = grind arith
@@ -51,7 +54,7 @@ module _ {P M R V : Type 0} (a : Plan P M R V) (value_of : M → R → V) (with_
 
   -- a number that is no station's makes no access
   pub turned_outside : Coherent a → Outside a l i → turned a value_of with_value l i ≡ l
-  turned_outside co o = turned_same co (let e = asked_outside a.stage_at l.n l.places i o in grind arith)
+  turned_outside co o = turned_same co (still a l i o)
 
   -- a turn moves its station to the stage of a place that follows
   step_stages : 1 ≤ i → (p : P) (o : Option (Access R V)) → is_some o ≡ true →
@@ -111,13 +114,10 @@ module _ {P M R V : Type 0} (a : Plan P M R V) (value_of : M → R → V) (with_
         (λ r. kept_same l (ended a l i) s (ended_same a l i r))
         (cases_Bool (is_inside (stages a l) i))
 
-    still : (o : Outside a l i) → is_moving (stages a l) i ≡ false
-    still o = let e = asked_outside a.stage_at l.n l.places i o in grind arith
-
     turned_kept : Kept m l (turned a value_of with_value l i)
     turned_kept = ⊎_elim
         (λ h. x.turned_kept l i s h.0)
-        (λ o. kept_same l (turned a value_of with_value l i) s (turned_same a value_of with_value l i co (still o)))
+        (λ o. kept_same l (turned a value_of with_value l i) s (turned_outside a value_of with_value l i co o))
         (in_or_out a l i)
 
     -- a station that a turn moves

@@ -22,6 +22,7 @@ known : (k : LockKind) → Known (kind_letter k)
 known Fast = inl refl
 known OneBit = inr refl
 
+-- kind by kind, so that it fails where two kinds of set-up have one letter
 letter_known : (k : LockKind) (n s : ℕ) → Known (set_up_letter (record { kind = k; stations = n; start = s }))
 letter_known Fast n s = inl refl
 letter_known OneBit n s = inr refl

@@ -10,7 +10,7 @@ use Rattle.sheet.specs.declared.line.Call.TheVariants.{Order, Slot}
 use Rattle.columns.specs.declared.wrong.WrongColumn.{WrongColumn}
 use Rattle.columns.specs.Field.{line_text}
 
--- that of the kind of lock
+-- a set-up's letter, which is that of its kind of lock
 abbrev pub set_up_letter : SetUp → ℕ
 set_up_letter x = kind_letter x.kind
 
